@@ -1,4 +1,4 @@
--- Segments that can be read each, and of which none is refused after those before it.
+-- Segments that can be read each, and none of them is refused after those before it.
 use Rattle.std.proofs.Common.{◌≡◌, ◌+◌, ◌≤◌, Bool, true, false, ◌&&◌, not, if◌then◌else◌, List, [], ◌∷◌, ◌++◌, length, refl, ap, ◌∙◌, sym, subst, arith, append_assoc, Option, Some, None}
 use Rattle.std.specs.List.{AllByRecursion, filter}
 use Rattle.std.specs.Option.{option_map}
@@ -76,7 +76,7 @@ no_two false before after at e le = refl
 no_two true [] after at e le = refl
 no_two true (x ∷ xs) after at e le = let k = rw e at le in absurd (omega (arith, k))
 
--- no bank stands before a bank, where there is one in all
+-- no bank comes before a bank, where there is one in all
 one_bank : (segments before after : List OwnedSegment) (at : OwnedSegment) (bank : BankRow)
     → read_each is_bank bank_row segments ≡ bank ∷ [] → segments ≡ before ++ at ∷ after
     → (is_bank at && not (is_empty (filter is_bank before))) ≡ false

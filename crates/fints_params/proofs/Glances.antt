@@ -1,4 +1,4 @@
--- What a glance at a segment tells is all that is read of it.
+-- What a glance at a segment says is all that is read of it.
 use Rattle.std.proofs.Common.{◌≡◌, ℕ, ◌≤◌, true, false, List, [], ◌∷◌, ◌++◌, codes, refl, ap, ◌∙◌, sym, subst, arith, inl, inr, Option, Some, None}
 use Rattle.std.specs.declared.alloc.Global.{Global}
 use Rattle.std.specs.Prelude.{Bool, Vec, ◌||◌, ◌&&◌, not, unwrap_or}

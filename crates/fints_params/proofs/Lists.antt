@@ -26,7 +26,7 @@ push_split (y ∷ ys) (b ∷ bs) after x at e =
       | inr w ↦ inr (w.0, ap (λ z. z ∷ ys) h ∙ ap (λ zs. b ∷ zs) w.1)
     ]
 
--- an item of two lists stands in the first or in the second
+-- an item of two lists is in the first or in the second
 pub two_lists : {A : Type 0} (xs ys before after : List A) (at : A) → xs ++ ys ≡ before ++ at ∷ after
     → ((more : List A) × (xs ≡ before ++ at ∷ more))
     ⊎ ((more : List A) × (before ≡ xs ++ more) × (ys ≡ more ++ at ∷ after))

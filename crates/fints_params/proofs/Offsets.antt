@@ -1,4 +1,4 @@
--- Where faults stand.
+-- Where faults are.
 use Rattle.std.proofs.Common.{◌≡◌, ℕ, ◌≤◌, List, ◌∷◌, length, take, arith, Some}
 use Rattle.std.proofs.lemmas.List.{length-take}
 use Rattle.fints_syntax.specs.Faults.{KindAt}

@@ -1,4 +1,4 @@
--- Each capture tells rows or is refused, and each message tells codes or is refused.
+-- Each capture has rows or is refused, and each message has codes or is refused.
 use Rattle.std.proofs.Common.{◌≡◌, ◌⊎◌, ℕ, ◌+◌, Bool, true, false, if◌then◌else◌, List, [], ◌∷◌, ◌++◌, map, refl, ap, ◌∙◌, sym, subst, inl, inr, append_assoc, Option, Some, None}
 use Rattle.std.specs.List.{filter, filter_map, flat_map}
 use Rattle.std.proofs.lemmas.Bool.{cases_Bool}
@@ -31,7 +31,7 @@ some_or_none : {A : Type 0} (o : Option A) → (o ≡ None) ⊎ ((x : A) × (o �
 some_or_none None = inl refl
 some_or_none (Some x) = inr (x, refl)
 
--- ---- segments, none of which is refused, or the first that is
+-- ---- segments that are all accepted, or the first that is refused
 
 pushed : (rule : Rule) (seen : List OwnedSegment) (s : OwnedSegment) (ss : List OwnedSegment) (f : ParamFault)
     → IsFirstRefused rule (seen ++ s ∷ []) ss f → IsFirstRefused rule seen (s ∷ ss) f
@@ -159,7 +159,7 @@ some_still : (before : List OwnedSegment) (s : OwnedSegment) → is_empty (filte
     → is_empty (filter is_bank (before ++ s ∷ [])) ≡ false
 some_still before s some = ap is_empty (filter-append is_bank before (s ∷ [])) ∙ longer (filter is_bank before) (filter is_bank (s ∷ [])) some
 
--- behind a bank there is none
+-- after a bank there is none
 none_behind : (before ss : List OwnedSegment) → NoneRefused fault_after (before ++ ss)
     → is_empty (filter is_bank before) ≡ false → filter is_bank ss ≡ []
 none_behind before [] none some = refl

@@ -126,14 +126,14 @@ not_received rule Good old piece f new before a start h u = not_received_by rule
 
 -- ---- the end
 
--- why nothing is told of the bytes
+-- why nothing is returned for the bytes
 nothing_told : (Refuses : List ℕ → ParamFault → Type 0) (r : Received) (bytes : List ℕ) (f : ParamFault)
     → r.failed ≡ None → bytes ≡ r.bytes → IsMemoryOr (Refuses bytes) f → TellsNothing Refuses r.failed r f
 nothing_told Refuses r bytes f none e h =
     subst (λ (o : Option ℕ). TellsNothing Refuses o r f) (sym none)
     (subst (λ (xs : List ℕ). IsMemoryOr (Refuses xs) f) e h)
 
--- a refusal of what is told of them
+-- a refusal of what is returned for them
 pub unfinished : {T : Type 0} (Refuses : List ℕ → ParamFault → Type 0) (r : Received) (bytes : List ℕ)
     (told : Result T ParamFault) → r.failed ≡ None → bytes ≡ r.bytes → IfErr told (IsMemoryOr (Refuses bytes))
     → IfErr told (TellsNothing Refuses r.failed r)

@@ -94,7 +94,7 @@ stop_next rule Good a b segments i s f lt e h m =
     memory_or (StopsIn rule Good b (s ∷ [])) (StopsIn rule Good a segments) f
     (λ g k. subst (λ (ss : List OwnedSegment). StopsIn rule Good a ss g) split (stop_later rule Good a b (take i segments) (s ∷ []) rest g h k)) m
 
--- ---- over segments and what they stand for
+-- ---- over segments and what they mean
 
 pub open_more : (ss segments : List OwnedSegment) (s : OwnedSegment) (mine : List OwnedSegment)
     → OpenTo ss segments → OpensTo s mine → OpenTo (ss ++ s ∷ []) (segments ++ mine)

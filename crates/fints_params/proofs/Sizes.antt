@@ -1,4 +1,4 @@
--- What a segment tells takes no less room in its text.
+-- What a segment says takes no less space in its text.
 use Rattle.std.proofs.Common.{◌≡◌, ℕ, ◌+◌, ◌<◌, ◌≤◌, Bool, true, false, List, [], ◌∷◌, length, drop, map, refl, ap, ◌∙◌, sym, arith, Option, Some, None}
 use Rattle.std.specs.Prelude.{slice_get}
 use Rattle.std.specs.List.{AllByRecursion, filter, flat_map}
@@ -33,7 +33,7 @@ elements_are es s o = ap (λ (x : OwnedSegment). x.elements) o
 some_same : {A : Type 0} (x y : A) → Some x ≡ Some y → x ≡ y
 some_same x y e = cc
 
--- the data of a segment stand in its text
+-- the data of a segment are in its text
 pub data_within : (es : List (List Spelled)) (s : OwnedSegment) (bytes : List ℕ) → s ≡ segment_of es
     → data_of s ≡ Some bytes → length bytes ≤ length (segment_bytes es)
 data_within [] s bytes o e = absurd (let k = sym e ∙ data_first s [] (elements_are [] s o) in cc)

@@ -43,7 +43,7 @@ pub views_stopped : {S : Type 0} (rule : Rule) (Good : List OwnedSegment → S �
 views_stopped rule Good a views view f none (seen, opened, g) k =
     record { front = views; at = view; back = []; split = refl; seen = seen; opened = opened; none = none seen g; refused = k seen g }
 
--- one behind the first refusal
+-- one more after the first refusal
 pub views_stay : (rule : Rule) (views : List Placed) (view : Placed) (f : ParamFault)
     → IsRefusedIn rule views f → IsRefusedIn rule (views ++ view ∷ []) f
 views_stay rule views view f r =
@@ -73,7 +73,7 @@ param_fault capture f h = inl h
 
 -- ---- the place of what is refused
 
--- the first of all segments that is refused stands for a part of one of these, or is one
+-- the first of all segments that is refused is one of these, or a part of what one of these means
 pub refused_among : (rule : Rule) (front placed : List Placed) (seen segments : List OwnedSegment)
     (f : ParamFault) → OpenTo (values_in front) seen → OpenTo (values_in placed) segments
     → IsFirstRefused rule seen segments f

@@ -1,4 +1,4 @@
--- What a capture tells: the rows or the codes of its segments, opened, of which each can be read. Then why it tells nothing.
+-- What a capture says: the rows or the codes of its segments, opened, all readable. Then why it says nothing.
 use Rattle.std.specs.Prelude.{◌≡◌, ◌⊎◌, ℕ, List, [], Some, None, Option, Result, Ok, Err}
 use Rattle.std.specs.List.{AllByRecursion, filter}
 use Rattle.fints_syntax_segments.specs.declared.item.OwnedSegment.{OwnedSegment}
@@ -40,12 +40,12 @@ IsParamFault capture f =
 abbrev pub LacksParams : List ℕ → Type 0
 LacksParams capture = IsParamFault capture NoBankParameters ⊎ IsParamFault capture NoPinParameters
 
--- what a capture tells of the bank, where no part of that is missing
+-- what a capture says of the bank, where no part of that is missing
 abbrev pub TellsBank : List ℕ → Option BankRows → Type 0
 TellsBank capture None = LacksParams capture
 TellsBank capture (Some told) = (rows : Rows) × IsParamsOf capture rows × (told ≡ bank_rows rows)
 
--- what it tells of the user, where some segment is a HIUPA or a HIUPD
+-- what it says of the user, where some segment is a HIUPA or a HIUPD
 abbrev pub TellsUser : List ℕ → Option UserRows → Type 0
 TellsUser capture told =
     (segments : List OwnedSegment) × AreSegmentsOf capture segments × NoneRefused fault_after segments
@@ -60,7 +60,7 @@ IsReadOf capture (Err f) = IsMemoryOr (IsParamFault capture) f
 abbrev pub IsCodeFault : List ℕ → ParamFault → Type 0
 IsCodeFault message f = IsRefusedOf feedback_fault message f
 
--- the first refusal of a capture of which both are asked for: by its parameters, or where it has parameters by its codes
+-- the first refusal of a capture read for both: by its parameters, or where it has parameters by its codes
 abbrev pub IsEitherFault : List ℕ → ParamFault → Type 0
 IsEitherFault capture f =
     IsParamFault capture f ⊎ ((rows : Rows) × IsParamsOf capture rows × IsCodeFault capture f)

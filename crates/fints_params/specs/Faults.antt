@@ -7,7 +7,7 @@ use Rattle.fints_syntax_segments.specs.declared.item.OwnedSegment.{OwnedSegment}
 use Rattle.fints_params.specs.declared.fault.ParamFault.{ParamFault}
 use Rattle.fints_params.specs.declared.fault.ParamFault.TheVariants.{Memory, Syntax, BadElement}
 
--- want of memory is one fault, wherever it is met
+-- running out of memory is one fault, wherever it is met
 abbrev pub fault_from : SyntaxKind → ℕ → ParamFault
 fault_from kinds.Memory o = Memory
 fault_from kind o = Syntax (record { kind = kind; offset = o })
@@ -15,7 +15,7 @@ fault_from kind o = Syntax (record { kind = kind; offset = o })
 abbrev pub as_param_fault : SyntaxFault → ParamFault
 as_param_fault f = fault_from f.kind f.offset
 
--- want of memory, or the element that is bad
+-- out of memory, or the element that is bad
 abbrev pub IsBad : OwnedSegment → Option ℕ → ParamFault → Type 0
 IsBad s bad Memory = Unit {0}
 IsBad s bad (BadElement segment element) = (bad ≡ Some element) × (segment ≡ s.head.number)

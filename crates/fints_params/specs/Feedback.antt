@@ -40,6 +40,6 @@ codes_fault s = option_map (λ i. i + 2) (position is_bad_code (map first_value 
 abbrev pub bad_code : OwnedSegment → Option ℕ
 bad_code s = if is_feedback s then codes_fault s else None
 
--- why a segment is refused, whatever stands before it
+-- why a segment is refused, whatever comes before it
 abbrev pub feedback_fault : List OwnedSegment → OwnedSegment → Option ParamFault
 feedback_fault before s = option_map (λ e. BadElement s.head.number e) (bad_code s)

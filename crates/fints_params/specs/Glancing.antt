@@ -1,4 +1,4 @@
--- What a glance at a segment says of it. Private contracts alone cite these words.
+-- What a glance at a segment says of it. Only private contracts use this file.
 use Rattle.std.specs.Prelude.{◌≡◌, ℕ, Bool, true, false, ◌||◌, List, [], ◌∷◌, Some, None}
 use Rattle.fints_syntax_segments.specs.Spelling.{Spelled, item_of}
 use Rattle.fints_syntax_segments.specs.Segment.{item_value}
@@ -21,7 +21,7 @@ pub record SpellsNumber (es : List (List Spelled)) (element n : ℕ) : Type 0 wh
   pub at : place_of es element 1 ≡ Some item
   pub number : number_of (item_value (item_of item)) ≡ Some n
 
--- a segment of which more is read than a parameter segment's numbers, HITANS left out
+-- a segment that is read beyond a parameter segment's numbers, HITANS left out
 abbrev pub is_read_whole : OwnedSegment → Bool
 is_read_whole s = is_bank s || is_pins s || is_usage s || is_account s || is_sealed s
 

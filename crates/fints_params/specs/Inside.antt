@@ -1,4 +1,4 @@
--- What a reader of parameters shows of its fields, and what it keeps of them. Its model alone cites these words.
+-- What a reader of parameters shows of its fields, and what it keeps of them. Only its model uses this file.
 use Rattle.std.specs.Prelude.{◌≡◌}
 use Rattle.fints_params.specs.Parameters.{fault_after}
 use Rattle.fints_params.specs.Pieces.{Received}

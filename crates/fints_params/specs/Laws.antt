@@ -1,4 +1,4 @@
--- The laws of what captures tell. Each is the contract of a public function. `OneParams` and `OneCodes`, with
+-- The laws of what captures say. Each is the contract of a public function. `OneParams` and `OneCodes`, with
 -- the laws beside them, say that bytes have one meaning at most; proofs above cite the lemmas of these laws by name.
 use Rattle.std.specs.Prelude.{◌≡◌, ◌⊎◌, ◌++◌, ℕ, List, None}
 use Rattle.std.specs.List.{flat_map}
@@ -45,13 +45,13 @@ abbrev pub PieceFaultIsParamFault : Type 0
 PieceFaultIsParamFault =
     (stream more : List ℕ) (f : ParamFault) → IsPieceFault stream f → IsParamFault (stream ++ more) f
 
--- each list of bytes tells rows as a capture, or is refused
+-- each list of bytes has rows as a capture, or is refused
 abbrev pub ParamsOrFault : Type 0
 ParamsOrFault =
     (capture : List ℕ)
     → ((rows : Rows) × IsParamsOf capture rows) ⊎ ((f : ParamFault) × IsParamFault capture f)
 
--- each tells codes as a message, or is refused
+-- each has codes as a message, or is refused
 abbrev pub CodesOrFault : Type 0
 CodesOrFault =
     (message : List ℕ)

@@ -1,4 +1,4 @@
--- What the segments of a capture stand for: an HNVSD 1 is replaced, once, by the segments of its data.
+-- What the segments of a capture mean: an HNVSD 1 is replaced, once, by the segments of its data.
 use Rattle.std.specs.Prelude.{◌≡◌, ◌⊎◌, ◌≤◌, ℕ, true, false, List, [], ◌∷◌, ◌++◌, length, Some}
 use Rattle.fints_syntax_segments.specs.Spelling.{Spelled}
 use Rattle.fints_syntax_segments.specs.declared.item.OwnedSegment.{OwnedSegment}
@@ -16,11 +16,11 @@ ReadsAs bytes segments =
 abbrev pub HasInside : OwnedSegment → List OwnedSegment → Type 0
 HasInside s mine = (bytes : List ℕ) × (data_of s ≡ Some bytes) × ReadsAs bytes mine
 
--- what a segment stands for: itself, or an HNVSD for the segments of its data
+-- what a segment means: itself, or where it is an HNVSD the segments of its data
 abbrev pub OpensTo : OwnedSegment → List OwnedSegment → Type 0
 OpensTo s mine = ((is_sealed s ≡ false) × (mine ≡ s ∷ [])) ⊎ ((is_sealed s ≡ true) × HasInside s mine)
 
--- what all of them stand for, in their order
+-- what all of them mean, in their order
 abbrev pub OpenTo : List OwnedSegment → List OwnedSegment → Type 0
 OpenTo [] segments = segments ≡ []
 OpenTo (s ∷ ss) segments =

@@ -1,5 +1,5 @@
 -- A reader of parameters: what it keeps of a capture that comes in pieces, and why a piece or the end is
--- refused. Words of private contracts and proofs alone stand last, under a heading.
+-- refused. What only private contracts and proofs use comes last, under a heading.
 use Rattle.std.specs.Prelude.{◌≡◌, ◌⊎◌, ◌≤◌, ℕ, List, [], ◌∷◌, ◌++◌, length, Option, Some, None}
 use Rattle.fints_syntax.specs.Streams.{SplitsInto, PieceFaultAt}
 use Rattle.fints_syntax.specs.declared.capture.Placed.{Placed}
@@ -10,7 +10,7 @@ use Rattle.fints_params.specs.declared.fault.ParamFault.TheVariants.{Memory, Syn
 use Rattle.fints_params.specs.Faults.{IsMemoryOr}
 use Rattle.fints_syntax.specs.declared.capture.TheConstants.{MAX_CAPTURE}
 
--- What a reader keeps: the stream so far, and once it has met a fault the fault's offset alone.
+-- What a reader keeps: the stream so far, and once it has met a fault only the fault's offset.
 pub record Received : Type 0 where
   pub bytes : List ℕ
   pub failed : Option ℕ
@@ -28,7 +28,7 @@ pub record IsReceived (old : Received) (piece : List ℕ) (new : Received) : Typ
   pub short : length (old.bytes ++ piece) ≤ MAX_CAPTURE
   pub kept : new ≡ record { bytes = old.bytes ++ piece; failed = None }
 
--- the fault of a stream so far, which no further byte mends
+-- the fault of a stream so far, which no further byte fixes
 abbrev pub IsPieceFault : List ℕ → ParamFault → Type 0
 IsPieceFault stream f =
     (fault : SyntaxFault) × PieceFaultAt MAX_CAPTURE fault.kind fault.offset stream × (f ≡ Syntax fault)
@@ -37,7 +37,7 @@ IsPieceFault stream f =
 abbrev pub answer_after : ℕ → ParamFault
 answer_after offset = Syntax (record { kind = Failed; offset = offset })
 
--- a sound reader refuses a piece for want of memory, and is as before, or for the stream's fault, and keeps its offset alone
+-- a sound reader refuses a piece if memory runs out, and is as before, or for the stream's fault, and keeps only its offset
 abbrev pub RefusesPiece : Received → List ℕ → ParamFault → Received → Type 0
 RefusesPiece old piece f new =
     ((f ≡ Memory) × (new ≡ old))
@@ -49,12 +49,12 @@ abbrev pub IsNotReceived : Option ℕ → Received → List ℕ → ParamFault �
 IsNotReceived (Some offset) old piece f new = (f ≡ answer_after offset) × (new ≡ old)
 IsNotReceived None old piece f new = RefusesPiece old piece f new
 
--- why nothing is told where the stream ends here, by what refuses a capture
+-- why nothing is returned where the stream ends here, by what refuses a capture
 abbrev pub TellsNothing : (List ℕ → ParamFault → Type 0) → Option ℕ → Received → ParamFault → Type 0
 TellsNothing Refuses (Some offset) received f = f ≡ answer_after offset
 TellsNothing Refuses None received f = IsMemoryOr (Refuses received.bytes) f
 
--- ---- of private contracts and proofs alone
+-- ---- of private contracts and proofs only
 
 -- a reader takes these pieces, one after the other
 abbrev pub AreReceived : Received → List (List ℕ) → Received → Type 0

@@ -1,4 +1,4 @@
--- Why a capture is refused: it is no list of segments; or behind segments that are accepted one is refused,
+-- Why a capture is refused: it is no list of segments; or one is refused after segments that are accepted,
 -- or an HNVSD doesn't open. A rule says why a segment is refused after those before it.
 use Rattle.std.specs.Prelude.{◌≡◌, ◌≢◌, ◌⊎◌, ℕ, ◌+◌, ◌≤◌, true, List, ◌∷◌, ◌++◌, length, map, Option, Some, None}
 use Rattle.fints_syntax.specs.Capture.{IsPlacedCapture, IsCaptureFault}
@@ -48,7 +48,7 @@ pub record IsFirstRefused (rule : Rule) (seen segments : List OwnedSegment) (f :
   pub none : NoneRefused rule (seen ++ before)
   pub fault : rule (seen ++ before) at ≡ Some f
 
--- after those seen the first of those that a segment stands for is refused, or it doesn't open
+-- after those seen the first of those that a segment means is refused, or it doesn't open
 abbrev pub IsRefusedAt : Rule → List OwnedSegment → OwnedSegment → ℕ → ParamFault → Type 0
 IsRefusedAt rule seen s place f =
     ((mine : List OwnedSegment) × OpensTo s mine × IsFirstRefused rule seen mine f)

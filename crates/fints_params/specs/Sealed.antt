@@ -1,4 +1,4 @@
--- HNVSD 1: item 1 of its element 2 is binary, and its data are segments. Words of private contracts and proofs alone stand last, under a heading.
+-- HNVSD 1: item 1 of its element 2 is binary, and its data are segments. What only private contracts and proofs use comes last, under a heading.
 use Rattle.std.specs.Prelude.{ℕ, Bool, List, length, slice_get, codes, Option, Some, None}
 use Rattle.std.specs.Option.{option_and_then, option_map_or}
 use Rattle.fints_syntax_segments.specs.declared.item.OwnedItem.{OwnedItem}
@@ -19,7 +19,7 @@ binary_bytes (Text bytes) = None
 abbrev pub data_of : OwnedSegment → Option (List ℕ)
 data_of s = option_and_then binary_bytes (slice_get (items_in s 2) 0)
 
--- ---- of private contracts and proofs alone
+-- ---- of private contracts and proofs only
 
 -- how many bytes the data have
 abbrev pub data_len : OwnedSegment → ℕ

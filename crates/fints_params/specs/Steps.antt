@@ -1,5 +1,5 @@
--- What a reader that goes from segment to segment has read so far, and where it stops. Private contracts and,
--- by `Inside`, the invariant of `ParamReader` alone cite these words.
+-- What a reader that goes from segment to segment has read so far, and where it stops. Only private contracts
+-- and, by `Inside`, the invariant of `ParamReader` use this file.
 use Rattle.std.specs.Prelude.{◌≡◌, ◌+◌, ◌≤◌, ℕ, ◌++◌, List, length, Option, Some, None}
 use Rattle.fints_syntax_segments.specs.Segment.{segment_bytes}
 use Rattle.fints_syntax.specs.Owned.{segment_of}
@@ -22,11 +22,11 @@ abbrev pub StopsIn : {S : Type 0} → Rule → (List OwnedSegment → S → Type
 StopsIn rule Good old segments f =
     (seen : List OwnedSegment) → Good seen old → IsFirstRefused rule seen segments f
 
--- a state that is right for what was seen is right after what a segment stands for too
+-- a state that is right for what was seen is right after what a segment means too
 abbrev pub ContinuesOver : {S : Type 0} → (List OwnedSegment → S → Type 0) → S → S → OwnedSegment → Type 0
 ContinuesOver Good old new s = (mine : List OwnedSegment) × OpensTo s mine × Continues Good old new mine
 
--- the first refusal in what a segment stands for, whose data start at this place, after what was seen
+-- the first refusal in what a segment means, whose data start at this place, after what was seen
 abbrev pub StopsAt :
     {S : Type 0} → Rule → (List OwnedSegment → S → Type 0) → S → OwnedSegment → ℕ → ParamFault → Type 0
 StopsAt rule Good old s place f = (seen : List OwnedSegment) → Good seen old → IsRefusedAt rule seen s place f
@@ -43,7 +43,7 @@ abbrev pub StopsNext : {S : Type 0} → Rule → (List OwnedSegment → S → Ty
     → Type 0
 StopsNext rule Good old view f = StopsAt rule Good old (segment_of view.segment) (data_place view) f
 
--- the state is right for all that the placed segments stand for
+-- the state is right for all that the placed segments mean
 abbrev pub ReadsViews : {S : Type 0} → (List OwnedSegment → S → Type 0) → List Placed → S → Type 0
 ReadsViews Good views new =
     (segments : List OwnedSegment) × OpenTo (values_in views) segments × Good segments new

@@ -12,7 +12,7 @@ use fints_syntax::{
 };
 use std::alloc::{AllocError, Global};
 
-// Entries stand in the elements from 11 on, and elements after the head are counted from 0 here.
+// Entries are in the elements from 11 on, and elements after the head are counted from 0 here.
 const FIRST_ENTRY: usize = 9;
 
 /// What HIUPA says: 0 or 1.

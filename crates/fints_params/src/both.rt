@@ -18,7 +18,7 @@ use crate::progress::Progress;
 use fints_syntax::{OwnedSegment, SegmentView};
 use std::alloc::{AllocError, Global};
 
-/// What a capture tells.
+/// What a capture says.
 #[derive(Drop)]
 pub struct ParamsAndCodes {
     pub params: Params,

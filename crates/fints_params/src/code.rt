@@ -4,7 +4,7 @@ ghost use Rattle.fints_params.specs.Feedback.{code_in};
 
 use std::marker::Model;
 
-/// A code of feedback, 0 to 9,999; a contract sees the number. 0 to 999 tell success, 3,000 to
+/// A code of feedback, 0 to 9,999; a contract sees the number. 0 to 999 mean success, 3,000 to
 /// 3,999 a warning, 9,000 to 9,999 an error (FinTS 3.0, Formals, feedback).
 #[derive(Clone, Copy, PartialEq, Eq, Hash)]
 pub struct Code {

@@ -96,7 +96,7 @@ pub fn bad_element(segment: &OwnedSegment, element: usize) -> ParamFault
     }
 }
 
-/// The fault is want of memory.
+/// The fault is that memory ran out.
 pub fn is_memory(fault: &ParamFault) -> bool
     ensures { IsTrue result ↔ (fault.now ≡ faults.Memory) }
 {

@@ -34,7 +34,7 @@ fn is_feedback(segment: &OwnedSegment) -> bool
     segment.is_named(b"HIRMG", 2) || segment.is_named(b"HIRMS", 2)
 }
 
-/// The same of a segment as it stands in its source.
+/// The same of a segment as it is in its source.
 pub fn is_feedback_view(segment: &SegmentView<'_>) -> bool
     ensures { result ≡ is_feedback (segment_of segment.now) }
 {
@@ -88,7 +88,7 @@ impl SegmentTaker for Found {
 }
 
 /// The codes of a message in their order: item 1 of each element from 2 on of HIRMG and HIRMS
-/// version 2, where it isn't empty. An HNVSD version 1 stands for the segments of its data, and
+/// version 2, where it isn't empty. An HNVSD version 1 is replaced by the segments of its data, and
 /// the first refusal is found in the order of `Params::read`; an item that is no code is a bad
 /// element.
 pub fn feedback_codes(alloc: Global, message: &[u8]) -> Result<Vec<Code>, ParamFault>

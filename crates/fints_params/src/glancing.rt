@@ -1,4 +1,4 @@
-//! What a glance at a segment tells, as it stands in its source.
+//! What a glance at a segment in its source says.
 ghost use Rattle.std.specs.Prelude.{◌≡◌, ℕ, List, IfSome, Some};
 ghost use Rattle.fints_syntax_segments.specs.Spelling.{Spelled};
 ghost use Rattle.fints_syntax.specs.ItemIs.{ItemIs};
@@ -12,7 +12,7 @@ use crate::orders::kind_of;
 use crate::rows::OrderParam;
 use fints_syntax::{Item, Kind, SegmentView};
 
-/// What a segment tells.
+/// What a segment says.
 pub enum Tells {
     Nothing,
     /// The row of a parameter segment.
@@ -57,7 +57,7 @@ fn order_row(segment: &SegmentView<'_>, kind: Kind) -> Option<OrderParam>
     })
 }
 
-/// What the segment tells, if its kind says it, or two numbers do.
+/// What the segment says, if its kind shows it, or two numbers do.
 pub fn glance(segment: &SegmentView<'_>) -> Tells
     ensures { IsGlance result (segment_of segment.now) }
 {

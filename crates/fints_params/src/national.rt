@@ -5,7 +5,7 @@ use fints_syntax::Memory;
 use std::alloc::Global;
 use std::marker::Model;
 
-/// An account as it is named within its country, by four texts that stand in one list of bytes; what
+/// An account as it is named within its country, by four texts in one list of bytes; what
 /// is absent is empty. A contract sees the texts.
 #[derive(Drop)]
 pub struct National {
@@ -68,7 +68,7 @@ impl National {
         &self.texts[..self.number_end]
     }
 
-    /// What is told apart below the number.
+    /// What distinguishes accounts with the same number.
     pub fn subaccount(&self) -> &[u8]
         ensures { result.now ≡ self.now.subaccount }
     {

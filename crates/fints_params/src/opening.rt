@@ -22,15 +22,15 @@ pub trait SegmentTaker {
     /// Why a segment is refused after those before it.
     ghost rule: { Rule };
 
-    /// The state is right for these segments, none of which is refused.
+    /// The state is right for these segments, and none of them is refused.
     ghost good: { List OwnedSegment → Self → Type 0 };
 
-    /// Takes a segment as it stands in its source, where a glance at it is enough; else nothing changes.
+    /// Takes a segment as it is in its source, where a glance at it is enough; else nothing changes.
     /// After an error the state isn't to be used again.
     fn glance(&mut self, segment: &SegmentView<'_>) -> Result<bool, AllocError>
         ensures { IfOk result (λ taken. IsGlanced good self.old self.new (segment_of segment.now) taken) };
 
-    /// Takes one segment behind those before it. After an error the state isn't to be used again.
+    /// Takes one segment after those before it. After an error the state isn't to be used again.
     fn take(&mut self, alloc: Global, segment: &OwnedSegment) -> Result<(), ParamFault>
         ensures ok { IfOk result (λ _. Continues good self.old self.new (segment.now ∷ [])) }
         ensures stopped { IfErr result (λ f. IsMemoryOr (StopsIn rule good self.old (segment.now ∷ [])) f) };
@@ -46,7 +46,7 @@ pub fn is_sealed(segment: &OwnedSegment) -> bool
     segment.is_named(b"HNVSD", HNVSD_VERSION)
 }
 
-/// The same of a segment as it stands in its source.
+/// The same of a segment as it is in its source.
 pub fn is_sealed_view(segment: &SegmentView<'_>) -> bool
     ensures { result ≡ is_sealed (segment_of segment.now) }
 {

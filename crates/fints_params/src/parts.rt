@@ -88,7 +88,7 @@ impl Model for UserParams {
 }
 
 impl UserParams {
-    /// Those of a user of whom no capture says anything: there are no accounts, and nothing can be said of
+    /// Those of a user that no capture says anything about: there are no accounts, and nothing can be said of
     /// orders that aren't listed.
     pub fn unknown(alloc: Global) -> UserParams
         ensures { result ≡ unknown_user }

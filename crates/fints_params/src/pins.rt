@@ -10,7 +10,7 @@ use crate::rows::PinRow;
 use fints_syntax::{Kind, OwnedSegment};
 use std::alloc::AllocError;
 
-// A pair may stand in HIPINS.
+// HIPINS may have such a pair.
 fn is_good(kind: &[u8], flag: &[u8]) -> bool
     ensures { result ≡ is_good_pair (record { kind = kind.now; flag = flag.now }) }
 {

@@ -1,4 +1,4 @@
-//! What a reader has read of bytes behind which more may come.
+//! What a reader has read of bytes that more may follow.
 ghost use Rattle.std.specs.Prelude.{◌≡◌, [], IfOk, IfErr};
 ghost use Rattle.fints_params.specs.Refused.{IsRefusedOf};
 ghost use Rattle.fints_params.specs.Faults.{IsMemoryOr};
@@ -13,7 +13,7 @@ use fints_syntax::{
 use std::alloc::Global;
 use std::mem::replace;
 
-/// A reader, and the first refusal among the segments that came, after which it is left alone. A
+/// A reader, and the first refusal among the segments that came, after which it gets no more. A
 /// segment at which a glance isn't enough is read into the memory of the one before.
 #[derive(Drop)]
 pub struct Reading<R> {

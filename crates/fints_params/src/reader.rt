@@ -16,7 +16,7 @@ use std::marker::Model;
 
 /// What reads a capture as its pieces come: its parameters, and beside them the codes of its
 /// feedback. A contract sees what it keeps. A segment is read when its last byte has come, and only
-/// once. The bytes are kept, so that after want of memory the reader is as before; what was read of
+/// once. The bytes are kept, so that when memory runs out the reader is as before; what was read of
 /// them is read once more then.
 #[derive(Drop)]
 pub struct ParamReader {
@@ -49,9 +49,9 @@ impl ParamReader {
         }
     }
 
-    /// Reads a piece of the capture. It is refused for the syntax fault of the capture so far alone,
+    /// Reads a piece of the capture. It is refused only for the syntax fault of the capture so far,
     /// whose offset is counted in the capture; an unfinished segment is none. After a fault every
-    /// piece is refused with its offset. After want of memory the reader is as before, so that the
+    /// piece is refused with its offset. When memory runs out the reader is as before, so that the
     /// piece may be fed again.
     pub fn feed(&mut self, piece: &[u8]) -> Result<(), ParamFault>
         ensures received { OnOk result (IsReceived self.old piece.now self.new) }

@@ -1,4 +1,4 @@
-//! What one answer of a bank tells, of which a part may be missing.
+//! What one answer of a bank says, where a part may be missing.
 ghost use Rattle.std.specs.Prelude.{◌≡◌, IfOk, IfErr};
 ghost use Rattle.fints_params.specs.Captures.{TellsBank, TellsUser};
 ghost use Rattle.fints_params.specs.Faults.{IsMemoryOr};
@@ -13,7 +13,7 @@ use crate::gathering::no_rows;
 use crate::parts::{BankParams, UserParams, parts_of};
 use std::alloc::Global;
 
-/// What a capture tells, by parts: a bank sends each of them whole, and not with each answer (FinTS 3.0,
+/// What a capture says, by parts: a bank sends each of them whole, and not with each answer (FinTS 3.0,
 /// Formals, parameter data).
 #[derive(Drop)]
 pub struct Told {
@@ -29,7 +29,7 @@ fn tells_user(rows: &Gathered) -> bool
     !rows.usages.is_empty() || !rows.accounts.is_empty()
 }
 
-/// What a capture tells. The refusal is that of `Params::read`, but for what is missing.
+/// What a capture says. The refusal is that of `Params::read`, but for what is missing.
 pub fn told_in(alloc: Global, capture: &[u8]) -> Result<Told, ParamFault>
     ensures bank { IfOk result (λ told. TellsBank capture.now told.bank) }
     ensures user { IfOk result (λ told. TellsUser capture.now told.user) }

@@ -1,4 +1,4 @@
--- The rules in the order of their numbers: each stands once among them, at its number.
+-- The rules in the order of their numbers: each is among them once, at its number.
 use Rattle.std.proofs.Common.{ℕ, ◌+◌, ◌-◌, ◌<◌, ◌≤◌, ◌==◌, ◌≡◌, ◌⊎◌, Bool, true, length, get_or, refl, ap, sym, subst, ◌∙◌, arith, inl, inr}
 use Rattle.std.proofs.lemmas.Bool.{agree_below, agree_below_at, cases_order, eqb-true}
 use Rattle.std.proofs.lemmas.List.{get_or_default}
@@ -7,7 +7,7 @@ use Rattle.fints_rules.specs.declared.rule.Rule.{Rule}
 use Rattle.fints_rules.specs.declared.rule.Rule.TheVariants as rule
 use Rattle.fints_rules.specs.declared.rule.TheConstants.Rule.{ALL}
 
--- the rule of this number; behind the last it is no matter which
+-- the rule of this number; after the last it is no matter which
 rule_at : ℕ → Rule
 rule_at n = get_or ALL (n - 1) rule.Protocol
 
@@ -31,7 +31,7 @@ rule_or r s = elim (cases_order (rule_number r) (rule_number s)) [
   | inr other ↦ inr (λ is. let same = ap rule_number is in elim other [ inl below ↦ omega (arith, same, below) | inr above ↦ omega (arith, same, above) ])
 ]
 
--- ---- as they stand in the list
+-- ---- as they are in the list
 
 abbrev has_place : ℕ → Bool
 has_place k = rule_number (get_or ALL k rule.Protocol) == k + 1
@@ -45,7 +45,7 @@ number_at k d lt =
     ∙ eqb-true (rule_number (get_or ALL k rule.Protocol)) (k + 1)
     (agree_below_at has_place (λ _. true) (length ALL) k each_has lt)
 
--- what holds of each that stands there holds of each
+-- what holds of each that is there holds of each
 pub each_rule : (P : Rule → Type 0) → ((k : ℕ) (d : Rule) → k < length ALL → P (get_or ALL k d)) → (r : Rule)
     → P r
 each_rule P h r =

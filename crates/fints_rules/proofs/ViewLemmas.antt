@@ -1,4 +1,4 @@
--- Segments where they stand, and by their values.
+-- Segments in place, and by their values.
 use Rattle.std.proofs.Common.{◌≡◌, ℕ, ◌<◌, ◌==◌, arith, Bool, ◌||◌, List, [], ◌∷◌, length, drop, drop-drop, get_or, map, ◌+◌, Some, None, Option, refl, ap, ◌∙◌, sym}
 use Rattle.std.specs.Prelude.{slice_get, unwrap_or}
 use Rattle.std.specs.List.{list_any}

@@ -1,4 +1,4 @@
--- Whether an order's account permits it, where the order names one. Private contracts alone cite these words.
+-- Whether an order's account permits it, where the order names one. Only private contracts use this file.
 use Rattle.std.specs.Prelude.{ℕ, Option, Some, None}
 use Rattle.fints_rules_permissions.specs.declared.permissions.Permit.{Permit}
 use Rattle.fints_rules_permissions.specs.Accounts.{Account}

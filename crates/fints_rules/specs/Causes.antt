@@ -1,5 +1,5 @@
--- Why a rule is broken at a segment: the parts of the rules' definitions, told apart. Words of private
--- contracts and proofs alone stand last, under a heading.
+-- Why a rule is broken at a segment: the parts of the rules' definitions, one by one. What only private
+-- contracts and proofs use comes last, under a heading.
 use Rattle.std.specs.Prelude.{◌≡◌, ℕ, Bool, false, None}
 use Rattle.fints_rules.specs.declared.facts.MessageFacts.{MessageFacts}
 use Rattle.fints_rules.specs.declared.rule.Rule.{Rule}
@@ -40,7 +40,7 @@ IsBrokenBecause granted f s cause.NoTanSent = SendsNoTan f s
 IsBrokenBecause granted f s cause.OneOrderAtATime = SubmitsOneOfSeveral granted.rows f s
 IsBrokenBecause granted f s cause.NoOneStep = GoesOneStep granted.rows f s
 
--- in some message with so many signatures the segment breaks the rule
+-- in some message with this many signatures the segment breaks the rule
 abbrev pub MayBreak : Granted → Rule → SegmentFactsValue → ℕ → Type 0
 MayBreak granted rule s signatures =
     (f : MessageFacts) × (f.signatures ≡ signatures) × SegmentBreaks granted f rule s
@@ -51,9 +51,9 @@ IsCauseOf granted rule s signatures cause =
     (f : MessageFacts) → f.signatures ≡ signatures → SegmentBreaks granted f rule s
     → IsBrokenBecause granted f s cause
 
--- ---- of private contracts and proofs alone
+-- ---- of private contracts and proofs only
 
--- a message with so many signatures, with a TAN or without one: it submits no order, and two demand a TAN
+-- a message with this many signatures, with a TAN or without one: it submits no order, and two demand a TAN
 abbrev pub barest : ℕ → Bool → MessageFacts
 barest signatures has_tan = record {
   protocol = None;

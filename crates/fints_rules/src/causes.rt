@@ -37,7 +37,7 @@ pub enum Cause {
     NoOneStep,
 }
 
-// The facts of a message with so many signatures, with a TAN or without one, that submits no order. Two of
+// The facts of a message with this many signatures, with a TAN or without one, that submits no order. Two of
 // its orders demand a TAN.
 fn barest(signatures: usize, has_tan: bool) -> MessageFacts
     ensures { result ≡ barest signatures has_tan }
@@ -55,7 +55,7 @@ fn barest(signatures: usize, has_tan: bool) -> MessageFacts
     }
 }
 
-// Whether in some message with so many signatures the segment breaks the rule: if it does in any, it does
+// Whether in some message with this many signatures the segment breaks the rule: if it does in any, it does
 // in one of the barest.
 fn may_break(
     permissions: &Permissions<'_>,
@@ -69,7 +69,7 @@ fn may_break(
         || segment_breaks(permissions, &barest(signatures, true), rule, segment)
 }
 
-/// Why the segment breaks the rule, wherever it does so in a message with so many signatures; some
+/// Why the segment breaks the rule, wherever it does so in a message with this many signatures; some
 /// exactly where it does in one of them. It takes no memory.
 pub fn segment_cause(
     permissions: &Permissions<'_>,

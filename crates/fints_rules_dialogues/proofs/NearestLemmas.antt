@@ -54,7 +54,7 @@ failed : {A : Type 0} (b : Bool) (x : A) (o : Option A) → (if b then Some x el
 failed true x o e = absurd (let k : Some x ≡ None = e in cc)
 failed false x o e = refl
 
--- one that passes after some of which none does
+-- one that passes after some that all fail
 pub first_found : {A : Type 0} (p : A → Bool) (front : List A) (x : A) (back : List A)
     → first_in p front ≡ None → p x ≡ true → first_in p (front ++ x ∷ back) ≡ Some x
 first_found p [] x back none e = if_true (p x) _ _ e

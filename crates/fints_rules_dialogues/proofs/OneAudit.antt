@@ -32,7 +32,7 @@ use Rattle.fints_rules_dialogues.proofs.OneDialogue.{one_dialogue}
 use Rattle.fints_rules_dialogues.proofs.OneTurn.{apart, head_is, none_is_some, tail_is}
 use Rattle.fints_rules_dialogues.proofs.OwnLemmas.{Tells}
 
--- ---- an answer that tells something isn't refused
+-- ---- an answer that says something isn't refused
 
 -- a fault of a whole capture: something is missing
 abbrev is_lack : ParamFault → Bool
@@ -111,7 +111,7 @@ none_refused es hs f h r =
     let told = told_at r.front r.at r.back hs (subst (λ (xs : List Exchange). AllZip Tells xs hs) r.split h.told) in
     answer_told r.at.answer told.0.bank told.0.user f told.1 r.refused
 
--- ---- the same exchanges tell the same
+-- ---- the same exchanges say the same
 
 abbrev bytes_in : Option (ℕ × List ℕ × List ℕ) → List ℕ
 bytes_in None = []
@@ -194,7 +194,7 @@ heard_alike es fs hs e h = record {
   told = told_alike es fs hs e h.told;
 }
 
--- ---- what is told of the bank is one thing
+-- ---- what is said of the bank is one thing
 
 lacks_not : (capture : List ℕ) (rows : Rows) → IsParamsOf capture rows → LacksParams capture → ⊥
 lacks_not capture rows is (inl lack) = no_params_at_fault capture rows params.NoBankParameters is lack
@@ -246,7 +246,7 @@ bank_half before h after =
     ∙ ap (λ (o : Option HeardRows). option_and_then (λ x. x.bank) o)
     (sym (nearest_of_map (tells_bank h.party) half before (h ∷ after)))
 
--- what the bank of each tells
+-- what the bank of each says
 abbrev banks_after : List HeardRows → List HeardRows → List (Option BankRows)
 banks_after before [] = []
 banks_after before (h ∷ hs) = bank_for before h hs ∷ banks_after (before ++ h ∷ []) hs

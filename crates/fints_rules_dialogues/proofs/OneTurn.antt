@@ -14,7 +14,7 @@ use Rattle.fints_rules_dialogues.specs.declared.reading.Exchange.{Exchange}
 use Rattle.fints_rules_dialogues.specs.Dialogues.{begins_after, is_answer, last_of, may_follow, may_follow_answer, sent_in, AreInTurnAfter, BeginsWith, IsAnswerFault, IsBankAnswer, IsClientFault, IsClientsNext, IsExchangeFault, IsFromBank, IsOutOfTurn, IsTurnFault, NoneAnswers}
 use Rattle.fints_rules_dialogues.specs.Laws.{answer_values, exchange_values}
 
--- the messages stand at the same places and have the same bytes
+-- the messages are at the same places and have the same bytes
 abbrev pub AllSame : List Sent → List Sent → Type 0
 AllSame [] [] = Unit {0}
 AllSame [] (n ∷ ns) = ⊥
@@ -228,7 +228,7 @@ module _ (m n : Sent) (start : m.start ≡ n.start) (bytes : m.bytes.now ≡ n.b
     one_client f (fault.Answer at k) h i = absurd i
     one_client f fault.NoParameters h i = absurd i
 
--- what tells codes isn't refused
+-- what has codes isn't refused
 no_answer : (ms ns : List Sent) (b : Sent) (f : DialogueFault) (numbers : List ℕ) → AllSame ms (b ∷ ns)
     → IsAnswerFault ms f → IsCodesOf b.bytes.now numbers → ⊥
 no_answer [] ns b f numbers same h g = same

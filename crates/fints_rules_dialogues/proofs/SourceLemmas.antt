@@ -1,4 +1,4 @@
--- Maps from parties to what was told nearest.
+-- Maps from parties to what was said nearest.
 use Rattle.std.proofs.Common.{◌≡◌, ◌∙◌, ap, sym, refl, ℕ, ◌&&◌, Bool, true, false, List, [], ◌∷◌, ◌++◌, length, suc, arith, map, subst, append_assoc, BTreeMap, if◌then◌else◌, cond, Option, Some, None, Bor}
 use Rattle.std.specs.Prelude.{option_copied}
 use Rattle.std.specs.List.{AllByRecursion, AllZip}
@@ -91,7 +91,7 @@ user_held : (orders : List OrderRow) (o : Option Granting) → HoldsOf (IsGranti
 user_held orders None h = refl
 user_held orders (Some g) h = h.user
 
--- the bank's part, by the rows that are told
+-- the bank's part, by the rows that are sent
 pub bank_found : (orders : List OrderRow) (before : List Granting) (g : Granting) (after : List Granting)
     (party : Party) → party ≡ g.heard.now.party → AllByRecursion (IsGranting orders) before → AllByRecursion (IsGranting orders) (g ∷ after)
     → option_and_then bank_of (nearest (λ x. tells Bank party x.heard.now) before (g ∷ after))
@@ -124,7 +124,7 @@ user_found orders before g after party unknown is none h k =
     ∙ ap (λ o. option_and_then (λ (x : HeardRows). x.user) o)
     (sym (nearest_of_map t (λ (x : Granting). x.heard.now) before (g ∷ after))))
 
--- no bank's part is found where no rows are told
+-- no bank's part is found where no rows are sent
 pub none_told : (orders : List OrderRow) (o : Option BankRows) → None ≡ option_map (grant orders) o → o ≡ None
 none_told orders None e = refl
 none_told orders (Some x) e = absurd (let k : None ≡ Some (grant orders x) = e in cc)

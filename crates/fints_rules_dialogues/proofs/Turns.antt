@@ -143,7 +143,7 @@ each_exchange before messages [] rest h = tt
 each_exchange before messages (e ∷ es) rest (left, begins, h) =
     (begins.exchange, each_exchange (Some e) left es rest h)
 
--- an answer whose feedback is refused, other than for want of memory
+-- an answer whose feedback is refused, other than because memory ran out
 pub answer_refused : (m : Sent) (f : ParamFault) → IsReadFault (IsCodeFault m.bytes.now) f
     → (f ≡ params.Memory → ⊥) → IsMemoryOrRefusal (IsAnswerFault (m ∷ [])) (fault.Answer m.start f)
 answer_refused m f (inl memory) other = absurd (other memory)

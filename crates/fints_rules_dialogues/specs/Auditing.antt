@@ -33,7 +33,7 @@ pub record IsAuditedNext (granted : Granted) (before : Option Exchange) (e : Exc
   pub begins : a.begins ≡ e.begins
   pub judged : IsJudgedNext granted (before_in before e) e.sent.bytes.now a.broken.items
 
--- the same of each exchange, by its own permissions, of which the first comes after that one
+-- the same of each exchange, by its own permissions; the first exchange comes after that one
 abbrev pub AreAuditedAfter : List Granted → Option Exchange → List Exchange → List Audited → Type 0
 AreAuditedAfter [] before [] audited = audited ≡ []
 AreAuditedAfter [] before (e ∷ es) audited = ⊥
@@ -73,7 +73,7 @@ AreAuditedInTurn granted messages audited =
     (exchanges : List Exchange) × AreInTurn messages exchanges []
     × AreAudited (same_for granted exchanges) exchanges audited
 
--- they are audited by the parameters that the recording's own answers tell, with an order table
+-- they are audited by the parameters in the recording's own answers, with an order table
 abbrev pub IsOwnAudit : List OrderRow → List Exchange → List Audited → Type 0
 IsOwnAudit orders exchanges audited =
     (granted : List Granted) × GrantsEach orders exchanges granted × AreAudited granted exchanges audited

@@ -36,7 +36,7 @@ is_answer m = list_any is_hirmg m.body
 abbrev pub IsFromClient : List ℕ → Type 0
 IsFromClient bytes = (m : MessageView) × IsMessage bytes m × (is_answer m ≡ false)
 
--- an answer of the bank: it tells some codes
+-- an answer of the bank: it has some codes
 abbrev pub IsFromBank : List ℕ → List ℕ → Type 0
 IsFromBank bytes numbers = IsCodesOf bytes numbers × (numbers ≢ [])
 

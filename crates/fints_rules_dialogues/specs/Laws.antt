@@ -10,7 +10,7 @@ use Rattle.fints_rules_dialogues.specs.Auditing.{IsOwnAudit}
 use Rattle.fints_rules_dialogues.specs.Dialogues.{IsDialogue, IsDialogueFault}
 use Rattle.fints_rules_dialogues.specs.OwnParams.{IsOwnParamsFault}
 
--- where an answer stands, its bytes and its codes
+-- an answer's start, its bytes and its codes
 abbrev pub answer_values : Option Answer → Option (ℕ × List ℕ × List ℕ)
 answer_values None = None
 answer_values (Some a) = Some (a.sent.start, a.sent.bytes.now, a.codes.items)

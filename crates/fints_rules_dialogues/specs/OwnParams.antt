@@ -1,4 +1,4 @@
--- The parameters that a recording tells itself: each message of the client is judged by those that the bank told
+-- The parameters in a recording itself: each message of the client is judged by those that the bank sent
 -- last before it (FinTS 3.0, Formals, bank and user parameter data).
 use Rattle.std.specs.Prelude.{◌≡◌, ◌⊎◌, ◌&&◌, Bool, List, [], ◌∷◌, ◌++◌, map, Option, Some, None}
 use Rattle.std.specs.List.{AllByRecursion, AllZip}
@@ -17,15 +17,15 @@ use Rattle.fints_rules_dialogues.specs.declared.parties.Party.{Party}
 use Rattle.fints_rules_dialogues.specs.declared.reading.Answer.{Answer}
 use Rattle.fints_rules_dialogues.specs.declared.reading.Exchange.{Exchange}
 
--- whose an exchange is, and what its answer tells of the bank and of the user
+-- whose an exchange is, and what its answer says of the bank and of the user
 pub record HeardRows : Type 0 where
   pub party : Party
   pub bank : Option BankRows
   pub user : Option UserRows
 
--- ---- what each answer tells
+-- ---- what each answer says
 
--- no answer tells nothing
+-- no answer says nothing
 abbrev pub AnswerTells : Option Answer → Option BankRows → Option UserRows → Type 0
 AnswerTells None bank user = (bank ≡ None) × (user ≡ None)
 AnswerTells (Some a) bank user = TellsBank a.sent.bytes.now bank × TellsUser a.sent.bytes.now user
@@ -37,16 +37,16 @@ pub record AreHeard (exchanges : List Exchange) (heard : List HeardRows) : Type 
 
 -- ---- by which parameters a message is judged
 
--- the other exchange is of the same bank, and its answer tells the bank's parameters
+-- the other exchange is of the same bank, and its answer has the bank's parameters
 abbrev pub tells_bank : Party → HeardRows → Bool
 tells_bank party other = same_bank other.party party && is_some other.bank
 
--- it is of the same bank and customer, and its answer tells the user's parameters
+-- it is of the same bank and customer, and its answer has the user's parameters
 abbrev pub tells_user : Party → HeardRows → Bool
 tells_user party other = same_customer other.party party && is_some other.user
 
--- The bank's parameters are those that were told last before the message, or where none were, those that are told
--- first after it. The user's are found in the same way; where nobody tells them, nothing is known of the user.
+-- The bank's parameters are those sent last before the message, or where none were, those that are sent first
+-- after it. The user's are found in the same way; where no answer has them, nothing is known of the user.
 abbrev pub bank_for : List HeardRows → HeardRows → List HeardRows → Option BankRows
 bank_for before h after = option_and_then (λ x. x.bank) (nearest (tells_bank h.party) before (h ∷ after))
 
@@ -54,7 +54,7 @@ abbrev pub user_for : List HeardRows → HeardRows → List HeardRows → UserRo
 user_for before h after =
     unwrap_or (option_and_then (λ x. x.user) (nearest (tells_user h.party) before (h ∷ after))) unknown_user
 
--- by what a message is judged with an order table, where its bank tells some parameters
+-- by what a message is judged with an order table, where its bank sends some parameters
 abbrev pub granted_for : List OrderRow → List HeardRows → HeardRows → List HeardRows → Option Granted
 granted_for orders before h after =
     option_map (λ bank. record { rows = joined bank (user_for before h after); orders = orders })
@@ -69,7 +69,7 @@ granted_after orders before (h ∷ hs) =
 abbrev pub granted_each : List OrderRow → List HeardRows → List (Option Granted)
 granted_each orders heard = granted_after orders [] heard
 
--- with an order table, the recording tells these permissions for the message of each exchange
+-- with an order table, the recording gives these permissions for the message of each exchange
 pub record GrantsEach (orders : List OrderRow) (exchanges : List Exchange) (granted : List Granted)
     : Type 0 where
   pub heard : List HeardRows
@@ -100,13 +100,13 @@ pub record IsRefusedAnswer (exchanges : List Exchange) (f : DialogueFault) : Typ
   pub before : AllByRecursion IsTold front
   pub refused : IsTellingFault at.answer f
 
--- the bank of some message tells no parameters
+-- the bank of some message sends no parameters
 abbrev pub LacksBank : List HeardRows → Type 0
 LacksBank heard =
     (before after : List HeardRows) × (h : HeardRows) × (heard ≡ before ++ h ∷ after)
     × (bank_for before h after ≡ None)
 
--- the first refusal of an answer as a capture, or that some message's bank tells no parameters
+-- the first refusal of an answer as a capture, or that some message's bank sends no parameters
 abbrev pub IsOwnParamsFault : List Exchange → DialogueFault → Type 0
 IsOwnParamsFault exchanges f =
     IsRefusedAnswer exchanges f

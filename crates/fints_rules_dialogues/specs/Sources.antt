@@ -1,5 +1,5 @@
--- Maps from parties to what was told nearest. Only private contracts and the model
--- of `OwnPermissions` cite these words.
+-- Maps from parties to what was said nearest. Only private contracts and the model
+-- of `OwnPermissions` use this file.
 use Rattle.std.specs.Prelude.{◌≡◌, ◌&&◌, Bool, List, [], ◌∷◌, map, Option}
 use Rattle.std.specs.Borrow.{Bor}
 use Rattle.std.specs.List.{AllByRecursion}
@@ -20,7 +20,7 @@ use Rattle.fints_rules_dialogues.specs.declared.sources.Key.{Key}
 use Rattle.fints_rules_dialogues.specs.declared.sources.Side.{Side}
 use Rattle.fints_rules_dialogues.specs.declared.sources.Side.TheVariants.{Bank, User}
 
--- what an answer tells of a side
+-- whether an answer says something of a side
 abbrev pub is_told : Side → HeardRows → Bool
 is_told Bank h = is_some h.bank
 is_told User h = is_some h.user
@@ -54,7 +54,7 @@ bank_of g = option_map (λ b. b.value) g.bank
 abbrev pub user_of : Granting → Option UserRows
 user_of g = option_map (λ u. u.value) g.user
 
--- what is permitted by what an exchange's answer tells
+-- what is permitted by what an exchange's answer says
 pub record IsGranting (orders : List OrderRow) (g : Granting) : Type 0 where
   pub bank : bank_of g ≡ option_map (λ rows. record { rows = rows; orders = orders }) g.heard.now.bank
   pub user : user_of g ≡ g.heard.now.user
@@ -63,7 +63,7 @@ pub record IsGranting (orders : List OrderRow) (g : Granting) : Type 0 where
 abbrev pub got : BTreeMap Key (Bor Granting) → Key → Option Granting
 got sources key = option_map (λ g. g.now) (get key_cmp sources key)
 
--- the map has for each party what tells of the side and is nearest: before the place, or else after it
+-- the map has for each party the nearest that says something of the side: before the place, or else after it
 abbrev pub HoldsNearest : Side → List Granting → List Granting → BTreeMap Key (Bor Granting) → Type 0
 HoldsNearest side before after sources =
     (party : Party) (key : Key) → IsKeyOf side party key

@@ -29,7 +29,7 @@ pub struct Audited<'a> {
 /// What looks on while a recording is audited. No contract says what it makes of it.
 pub trait Observer: UnreadObserver {
     /// Looks at the next exchange, and at the rules that its message breaks under these permissions, which
-    /// these answers tell.
+    /// come from these answers.
     fn observe(
         &mut self,
         permissions: &Permissions<'_>,
@@ -177,9 +177,9 @@ fn audit_each<'a, O: Observer>(
     Ok(audited)
 }
 
-/// The same by the parameters that the recording's own answers tell, each message by those that were told
+/// The same by the parameters in the recording's own answers, each message by those that were sent
 /// last before it (`OwnPermissions::each`). The refusal is that of `OwnParams::of`, or that the bank of some
-/// message tells no parameters.
+/// message sends no parameters.
 pub fn audit_exchanges<'a, O: Observer>(
     alloc: Global,
     orders: &OrderTable,

@@ -1,4 +1,4 @@
-//! What the bank's answers in a recording tell of banks and users.
+//! What the bank's answers in a recording say of banks and users.
 ghost use Rattle.std.specs.Prelude.{◌≡◌, IfOk, IfErr, option_copied};
 ghost use Rattle.std.specs.Option.{option_map};
 ghost use Rattle.fints_params.specs.Captures.{TellsBank, TellsUser};
@@ -36,14 +36,14 @@ pub fn boxed_in<T>(one: &Option<Box<T>>) -> Option<&T>
     }
 }
 
-/// Whose an exchange is, and what its answer tells; a contract sees the rows.
+/// Whose an exchange is, and what its answer says; a contract sees the rows.
 #[derive(Drop)]
 pub struct Heard<'a> {
     party: Rc<Party>,
     // Most answers have no parameters, so those of one are in a box.
     bank: Option<Box<BankParams>>,
     user: Option<Box<UserParams>>,
-    // The answer that tells it.
+    // The answer that says it.
     answer: Option<Sent<'a>>,
 }
 
@@ -68,14 +68,14 @@ impl<'a> Heard<'a> {
         &self.party
     }
 
-    /// What the answer tells of the bank.
+    /// What the answer says of the bank.
     pub fn bank(&self) -> Option<&BankParams>
         ensures { option_copied result ≡ self.now.bank }
     {
         boxed_in(&self.bank)
     }
 
-    /// What it tells of the user.
+    /// What it says of the user.
     pub fn user(&self) -> Option<&UserParams>
         ensures { option_copied result ≡ self.now.user }
     {
@@ -88,7 +88,7 @@ impl<'a> Heard<'a> {
     }
 }
 
-// What a message of the bank tells.
+// What a message of the bank says.
 fn told_in_sent(alloc: Global, sent: &Sent<'_>) -> Result<Told, DialogueFault>
     ensures bank { IfOk result (λ told. TellsBank sent.now.bytes.now told.bank) }
     ensures user { IfOk result (λ told. TellsUser sent.now.bytes.now told.user) }
@@ -106,7 +106,7 @@ fn told_in_sent(alloc: Global, sent: &Sent<'_>) -> Result<Told, DialogueFault>
     }
 }
 
-// What the answer of an exchange tells; nothing where there is none.
+// What the answer of an exchange says; nothing where there is none.
 fn told_by(alloc: Global, answer: &Option<Answer<'_>>) -> Result<Told, DialogueFault>
     ensures told { IfOk result (λ told. AnswerTells answer.now told.bank told.user) }
     ensures refused { IfErr result (λ f. IsMemoryOrRefusal (IsTellingFault answer.now) f) }
@@ -120,7 +120,7 @@ fn told_by(alloc: Global, answer: &Option<Answer<'_>>) -> Result<Told, DialogueF
     }
 }
 
-// Whose an exchange is, with what its answer tells.
+// Whose an exchange is, with what its answer says.
 fn heard_of<'a>(
     alloc: Global,
     party: Rc<Party>,
@@ -147,7 +147,7 @@ fn sent_in<'a>(answer: &Option<Answer<'a>>) -> Option<Sent<'a>> {
     }
 }
 
-/// What the answers of a recording tell, exchange by exchange; a contract sees the rows.
+/// What the answers of a recording say, exchange by exchange; a contract sees the rows.
 #[derive(Drop)]
 pub struct OwnParams<'a> {
     heard: Vec<Heard<'a>>,
@@ -167,7 +167,7 @@ impl<'a> Model for OwnParams<'a> {
 }
 
 impl<'a> OwnParams<'a> {
-    /// What the answers of the exchanges tell. The refusal is that of the first answer that is refused as a
+    /// What the answers of the exchanges say. The refusal is that of the first answer that is refused as a
     /// capture for something else than what is missing.
     pub fn of(alloc: Global, exchanges: &[Exchange<'a>]) -> Result<OwnParams<'a>, DialogueFault>
         ensures heard { IfOk result (λ own. AreHeard exchanges.now own) }
@@ -187,14 +187,14 @@ impl<'a> OwnParams<'a> {
         })
     }
 
-    /// Whose each exchange is, and what its answer tells.
+    /// Whose each exchange is, and what its answer says.
     pub fn heard(&self) -> &[Heard<'a>]
         ensures { result.now ≡ self.now }
     {
         self.heard.as_slice()
     }
 
-    /// Those of a user of whom no answer tells anything.
+    /// Those of a user that no answer says anything about.
     pub fn unknown(&self) -> &UserParams
         ensures { result.now ≡ unknown_user }
     {

@@ -23,7 +23,7 @@ use std::alloc::Global;
 use std::collections::BTreeMap;
 use std::marker::Model;
 
-/// Of what an answer tells.
+/// The side that an answer says something of.
 #[derive(Clone, Copy)]
 pub enum Side {
     Bank,
@@ -38,8 +38,8 @@ pub struct Granting<'a> {
     user: Option<Box<UserPermissions<'a>>>,
 }
 
-/// What is the same of all exchanges that share what is told: the bank's country and code, and where it is told
-/// of the user the customer's id.
+/// What all exchanges that share parameters have in common: the bank's country and code, and where these are
+/// the user's parameters, the customer's id.
 #[derive(Clone, Copy, PartialEq, Eq, PartialOrd, Ord)]
 pub struct Key<'a> {
     country: &'a [u8],
@@ -47,7 +47,7 @@ pub struct Key<'a> {
     customer: &'a [u8],
 }
 
-/// The answers that tell the parameters by which a message is judged: none where nobody tells them, or where
+/// The answers with the parameters by which a message is judged: none where no answer has them, or where
 /// a capture is handed in.
 #[derive(Clone, Copy)]
 pub struct ToldIn<'a> {
@@ -55,7 +55,7 @@ pub struct ToldIn<'a> {
     pub user: Option<Sent<'a>>,
 }
 
-/// By what a message is judged, and which answers tell it; a contract sees what is permitted.
+/// By what a message is judged, and the answers that this comes from; a contract sees what is permitted.
 #[derive(Drop)]
 pub struct Basis<'g> {
     bank: &'g BankPermissions<'g>,
@@ -109,7 +109,7 @@ fn is_told(side: Side, heard: &Heard<'_>) -> bool
     }
 }
 
-// From here on, where its answer tells of the side, the granting is the nearest of its party.
+// From here on, where its answer says something of the side, the granting is the nearest of its party.
 fn note<'g, 'a>(
     sources: &mut Sources<'g, 'a>,
     side: Side,
@@ -125,7 +125,7 @@ fn note<'g, 'a>(
     Ok(())
 }
 
-// The first of each party whose answer tells of the side.
+// The first of each party whose answer says something of the side.
 fn first_sources<'g, 'a>(
     alloc: Global,
     side: Side,
@@ -166,7 +166,7 @@ fn user_at<'g, 'a>(users: &Sources<'g, 'a>, party: &'g Party) -> Option<&'g User
     }
 }
 
-// The answer that is the nearest of the party to tell of the side, if there is one.
+// The answer that is the nearest of the party to say something of the side, if there is one.
 fn answer_at<'g, 'a>(sources: &Sources<'g, 'a>, side: Side, party: &'g Party) -> Option<Sent<'a>> {
     match sources.get(&key_of(side, party)) {
         Some(granting) => granting.heard.answer(),
@@ -174,7 +174,7 @@ fn answer_at<'g, 'a>(sources: &Sources<'g, 'a>, side: Side, party: &'g Party) ->
     }
 }
 
-// By what the message of an exchange is judged. The refusal is that its bank tells no parameters.
+// By what the message of an exchange is judged. The refusal is that its bank sends no parameters.
 fn basis_at<'g, 'a>(
     banks: &Sources<'g, 'a>,
     users: &Sources<'g, 'a>,
@@ -227,7 +227,7 @@ fn granting_of<'a>(
     })
 }
 
-/// What the answers of a recording permit, by an order table; a contract sees the rows that they tell.
+/// What the answers of a recording permit, by an order table; a contract sees the rows that they have.
 #[derive(Drop)]
 pub struct OwnPermissions<'a> {
     orders: &'a OrderTable,
@@ -250,7 +250,7 @@ impl<'a> Model for OwnPermissions<'a> {
 }
 
 impl<'a> OwnPermissions<'a> {
-    /// What the answers permit that tell this.
+    /// What the answers with these parameters permit.
     pub fn of(
         alloc: Global,
         own: &'a OwnParams<'a>,
@@ -271,11 +271,11 @@ impl<'a> OwnPermissions<'a> {
         })
     }
 
-    /// By what the message of each exchange is judged: the bank's parameters that were told last before it
+    /// By what the message of each exchange is judged: the bank's parameters that were sent last before it
     /// in a dialogue with the bank, or where there are none, the first ones after it; and in the same way
-    /// the user's in a dialogue of the same customer. Where no answer tells of the user, there are no
+    /// the user's in a dialogue of the same customer. Where no answer says anything of the user, there are no
     /// accounts, and nothing can be said of orders that aren't listed. The refusal is that the bank of some
-    /// message tells no parameters.
+    /// message sends no parameters.
     pub fn each<'g>(&'g self, alloc: Global) -> Result<Vec<Basis<'g>>, DialogueFault>
         ensures granted { IfOk result (λ v. map Some v.items
             ≡ granted_each self.now.orders self.now.heard) }

@@ -92,7 +92,7 @@ one_of next x (f ∷ fs) back h = one_of next x fs back h.1
 rest_is : (x y : FoundValue) (xs ys : List FoundValue) → x ∷ xs ≡ y ∷ ys → xs ≡ ys
 rest_is x y xs ys e = ap (drop 1) e
 
--- what stands after the base is among its twins
+-- what comes after the base is among its twins
 among : (next x : FoundValue) (base twins front back : List FoundValue) → base ++ twins ≡ front ++ x ∷ back
     → length base ≤ length front → AreTwinsOf next twins → AreTwins next.bytes x.bytes
 among next x [] twins front back e le h = one_of next x front back (subst (AreTwinsOf next) e h)

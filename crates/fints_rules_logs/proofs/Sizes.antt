@@ -1,4 +1,4 @@
--- What HNHBK tells of the size of a message, and which bytes are as many as they say.
+-- What HNHBK says of the size of a message, and which bytes are as many as they say.
 use Rattle.std.proofs.Common.{◌≡◌, ℕ, ◌+◌, ◌-◌, ◌<◌, ◌≤◌, List, [], ◌∷◌, ◌++◌, length, get_or, drop, take, codes, refl, ap, ◌∙◌, sym, subst, arith, append_assoc, Option, Some, None, IfSome, IfNone, inl, inr}
 use Rattle.std.proofs.lemmas.Bool.{cases_lt}
 use Rattle.std.proofs.lemmas.List.{length-append, length-take-le, take-append-drop, drop_at, take_at}
@@ -26,7 +26,7 @@ first_is : (xs : List ℕ) (c : ℕ) → 0 < length xs → get_or xs 0 0 ≡ c �
 first_is [] c lt e = absurd (omega arith)
 first_is (x ∷ xs) c lt e = ap (λ y. y ∷ xs) e
 
--- bytes with HNHBK, 12 digits and a plus at their front tell what the digits spell
+-- bytes with HNHBK, 12 digits and a plus at their front say what the digits spell
 pub says : (bytes : List ℕ) (n : ℕ) → bytes ≡ head_text ++ drop 10 bytes
     → 0 < length (drop 12 (drop 10 bytes)) → get_or (drop 12 (drop 10 bytes)) 0 0 ≡ 43
     → number_in 12 12 (take 12 (drop 10 bytes)) ≡ Some n → SaysSize bytes n
@@ -41,14 +41,14 @@ says bytes n starts some plus size = record {
   size_is = size;
 }
 
--- what the digits spell there, if anything, is told
+-- what the digits spell there, if anything, is what the bytes say
 pub said : (bytes : List ℕ) (r : Option ℕ) → bytes ≡ head_text ++ drop 10 bytes
     → 0 < length (drop 12 (drop 10 bytes)) → get_or (drop 12 (drop 10 bytes)) 0 0 ≡ 43
     → r ≡ number_in 12 12 (take 12 (drop 10 bytes)) → IfSome r (λ n. SaysSize bytes n)
 said bytes None starts some plus e = tt
 said bytes (Some n) starts some plus e = says bytes n starts some plus (sym e)
 
--- and bytes that tell a size have them there
+-- and bytes that say a size have them there
 pub behind_head : (bytes : List ℕ) (n : ℕ) (h : SaysSize bytes n) → drop 10 bytes ≡ h.digits ++ 43 ∷ h.more
 behind_head bytes n h = ap (drop 10) h.text ∙ drop_at head_text (h.digits ++ 43 ∷ h.more) 10 refl
 
@@ -75,11 +75,11 @@ long_enough bytes n h =
       twelve h.digits n h.size_is,
     )
 
--- bytes tell one size
+-- bytes say one size
 pub one_size : (bytes : List ℕ) (m n : ℕ) → SaysSize bytes m → SaysSize bytes n → m ≡ n
 one_size bytes m n h g = some_number m n (sym (number_told bytes m h) ∙ number_told bytes n g)
 
--- what stands behind changes nothing of what is told
+-- what comes after changes nothing of what is said
 pub says_before : (bytes more : List ℕ) (n : ℕ) → SaysSize bytes n → SaysSize (bytes ++ more) n
 says_before bytes more n h = record {
   digits = h.digits;
@@ -91,7 +91,7 @@ says_before bytes more n h = record {
   size_is = h.size_is;
 }
 
--- as many bytes as the front of some tells are as many as they say
+-- as many bytes as the front of some says are as many as they say
 pub sized_front : (bytes : List ℕ) (n : ℕ) → SaysSize bytes n → 23 ≤ n → n ≤ length bytes
     → IsSized (take n bytes)
 sized_front bytes n h least within =

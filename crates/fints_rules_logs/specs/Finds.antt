@@ -10,7 +10,7 @@ pub record FoundValue : Type 0 where
   pub form : Form
   pub bytes : List ℕ
 
--- a begin of which no message comes, and its HNHBK after the size
+-- a begin without a message, and its HNHBK after the size
 pub record UnfitValue : Type 0 where
   pub start : ℕ
   pub head : List ℕ

@@ -8,7 +8,7 @@ use Rattle.fints_rules_logs.specs.declared.fault.LogFault.TheVariants.{Memory}
 abbrev pub OneLog : Type 0
 OneLog = (file : List ℕ) (a b : LogValue) → IsLog file a → IsLog file b → a ≡ b
 
--- it has one refusal at most, a growth that was refused aside
+-- it has one refusal at most, apart from an allocation that fails
 abbrev pub OneLogFault : Type 0
 OneLogFault =
     (file : List ℕ) (f g : LogFault) → IsLogFault file f → IsLogFault file g → (f ≡ Memory → ⊥)

@@ -1,4 +1,4 @@
--- The messages of a file, leftmost first, and the begins of which no message comes.
+-- The messages of a file, leftmost first, and the begins without a message.
 use Rattle.std.specs.Prelude.{◌≡◌, ℕ, ◌+◌, ◌<◌, ◌≤◌, List, [], ◌∷◌, length, drop}
 use Rattle.fints_rules_logs.specs.Standing.{IsMisfit, NothingAt, Stands}
 use Rattle.fints_rules_logs.specs.declared.find.Find.{Find}
@@ -22,7 +22,7 @@ IsFind file (Misfit x) len =
 abbrev pub NothingFrom : List ℕ → ℕ → ℕ → Type 0
 NothingFrom file from to = (at : ℕ) → from ≤ at → at < to → NothingAt (drop at file)
 
--- from this offset on these are found, the last of which ends at that offset
+-- from this offset on these are found, and the last of them ends at that offset
 abbrev pub AreFoundFrom : List ℕ → ℕ → List Find → ℕ → Type 0
 AreFoundFrom file from [] to = from ≡ to
 AreFoundFrom file from (f ∷ fs) to =

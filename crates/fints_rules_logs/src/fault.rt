@@ -8,7 +8,7 @@ use std::alloc::{AllocError, AllocFailed};
 /// Why no messages are taken from a file.
 #[derive(Clone, Copy, Debug, PartialEq, Eq)]
 pub enum LogFault {
-    /// A growth was refused.
+    /// An allocation failed.
     Memory,
     /// No message begins in the file.
     NoMessage,

@@ -6,7 +6,7 @@ pub fn one_log()
     ensures { OneLog }
 {}
 
-/// A file has one refusal at most, and is never a log and refused; a growth that was refused aside.
+/// A file has one refusal at most, and is never a log and refused, apart from a failed allocation.
 pub fn one_log_fault()
     ensures fault { OneLogFault }
     ensures not_both { NoLogAtFault }

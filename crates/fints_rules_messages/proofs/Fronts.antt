@@ -150,7 +150,7 @@ next_from law bytes t n h e le =
 pub after_opener : (s : OwnedSegment) (k b e : ℕ) → CanStand s k b e → Opener ≡ part_of s → (b ≡ 0) × (e ≡ 0)
 after_opener s k b e h p = subst (λ q. CanFollow q k b e) (sym p) h.1
 
--- what can stand there and is neither HNSHK nor HNSHA is of the body
+-- what can come there and is neither HNSHK nor HNSHA is of the body
 pub after_body : (s : OwnedSegment) (k b e : ℕ) (p : Part) → CanStand s k b e → p ≡ part_of s
     → (p ≡ Opener → ⊥) → (p ≡ Ender → ⊥) → (part_of s ≡ Body) × (e ≡ 0)
 after_body s k b e Opener h p opener ender = absurd (opener refl)

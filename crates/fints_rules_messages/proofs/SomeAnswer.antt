@@ -32,7 +32,7 @@ one_more bytes front t rest more text e =
 -- bytes that do neither
 module _ (bytes : List ℕ) (none : (m : MessageView) → IsMessage bytes m → ⊥)
     (never : (a : ℕ) → CeasesAt bytes a → ⊥) where
-  -- behind a front that begins a message stands a segment that goes on with it
+  -- after a front that begins a message comes a segment that goes on with it
   goes_on_behind : (front : List Tree) (rest : List ℕ) → AllByRecursion IsSegment front
       → bytes ≡ texts_of front ++ rest → Begins (length bytes) (segments_of front)
       → ((t : Tree) (more : List ℕ) → IsSegment t → rest ≡ segment_bytes t ++ more

@@ -147,7 +147,7 @@ refused_tail bytes n at number t h f s = record {
   unfinished = λ e w. s.unfinished e (w.0.inner, w.0.body, w.0.ends, tail_in (length bytes) number (segment_of t) (segments_of s.front) w.0 f w.1);
 }
 
--- what stands between HNHBK and HNHBS, and HNHBS, are those that were read
+-- what is between HNHBK and HNHBS, and HNHBS, are those that were read
 tail_parts : (number : ℕ) (tail inner body ends middle : List OwnedSegment) (last : OwnedSegment)
     → IsTail number tail inner body ends → tail ≡ middle ++ last ∷ []
     → ((middle ≡ inner) ⊎ Seals inner middle) × IsLast number last × IsNumbered 2 (inner ++ last ∷ [])

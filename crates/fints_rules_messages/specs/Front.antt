@@ -1,4 +1,4 @@
--- What a look at the segments between HNHBK and HNHBS finds. Private contracts alone cite these words.
+-- What a look at the segments between HNHBK and HNHBS finds. Only private contracts use this file.
 use Rattle.std.specs.Prelude.{◌≡◌, ◌⊎◌, ℕ, ◌+◌, ◌<◌, ◌≤◌, List, [], ◌∷◌, ◌++◌, length, drop, Option, Some, None, Result, Ok, Err}
 use Rattle.std.specs.List.{AllByRecursion}
 use Rattle.fints_syntax_segments.specs.Spelling.{Spelled}
@@ -21,7 +21,7 @@ use Rattle.fints_rules_messages.specs.declared.part.Part.TheVariants.{Opener, Bo
 abbrev pub inner_of : Inner → List OwnedSegment
 inner_of i = segments_of i.openers.items ++ (segments_of i.body.items ++ segments_of i.ends.items)
 
--- inner segments as they stand between HNHBK and HNHBS: plain or sealed
+-- inner segments as they are between HNHBK and HNHBS: plain or sealed
 abbrev pub middle_by : Option Seal → List OwnedSegment → List OwnedSegment
 middle_by None inner = inner
 middle_by (Some seal) inner = segment_of seal.head ∷ segment_of seal.envelope ∷ []
@@ -39,14 +39,14 @@ pub record IsHalf (segments openers body ends : List OwnedSegment) : Type 0 wher
   pub at_most : length ends ≤ length openers
   pub together : segments ≡ openers ++ (body ++ ends)
 
--- a segment of this part can follow so many HNSHK, segments of the body and HNSHA
+-- a segment of this part can follow this many HNSHK, segments of the body and HNSHA
 abbrev pub CanFollow : Part → ℕ → ℕ → ℕ → Type 0
 CanFollow Opener openers body ends = (body ≡ 0) × (ends ≡ 0)
 CanFollow Body openers body ends = ends ≡ 0
 CanFollow Ender openers body ends = ends < openers
 CanFollow Other openers body ends = ⊥
 
--- the bytes begin with segments that can stand between HNHBK and HNHBS, and the next, if there is one, can't
+-- the bytes begin with segments that can come between HNHBK and HNHBS, and the next, if there is one, can't
 pub record IsFront (bytes : List ℕ) (at : ℕ) (openers body ends : List (List (List Spelled))) : Type 0 where
   pub trees : List (List (List Spelled))
   pub each : AllByRecursion IsSegment trees
@@ -55,7 +55,7 @@ pub record IsFront (bytes : List ℕ) (at : ℕ) (openers body ends : List (List
   pub half : IsHalf (segments_of trees) (segments_of openers) (segments_of body) (segments_of ends)
   pub numbered : IsNumbered 2 (segments_of trees)
 
--- the bytes begin with the text of this segment, of so many bytes, and of no other
+-- the bytes begin with the text of this segment, of `len` bytes, and of no other
 pub record IsNextSegment (bytes : List ℕ) (t : List (List Spelled)) (len : ℕ) : Type 0 where
   pub segment : IsSegment t
   pub text : bytes ≡ segment_bytes t ++ drop len bytes
@@ -68,18 +68,18 @@ abbrev pub HasNoNext : List ℕ → Type 0
 HasNoNext bytes =
     (t : List (List Spelled)) (more : List ℕ) → IsSegment t → bytes ≡ segment_bytes t ++ more → ⊥
 
--- the segment can stand next
+-- the segment can come next
 abbrev pub CanStand : OwnedSegment → ℕ → ℕ → ℕ → Type 0
 CanStand s openers body ends =
     (s.head.number ≡ 2 + (openers + (body + ends))) × CanFollow (part_of s) openers body ends
 
--- no segment that can stand there follows
+-- no segment that can come there follows
 abbrev pub NoneStands : List ℕ → ℕ → ℕ → ℕ → Type 0
 NoneStands bytes openers body ends =
     (t : List (List Spelled)) (more : List ℕ) → IsSegment t → bytes ≡ segment_bytes t ++ more
     → CanStand (segment_of t) openers body ends → ⊥
 
--- the same behind these inner segments
+-- the same after these inner segments
 abbrev pub CanStandBehind : Inner → OwnedSegment → Type 0
 CanStandBehind inner s =
     CanStand s (length inner.openers.items) (length inner.body.items) (length inner.ends.items)
@@ -138,19 +138,19 @@ abbrev pub TailIs : Form → List OwnedSegment → List ℕ → Tail → Type 0
 TailIs form before bytes (Whole i last) = IsReadBy form before bytes i last
 TailIs form before bytes (Stop at slip) = Stops (BeginsBy form) (IsWholeBy form) bytes at
 
--- HNHBS stands there, and the HNSHA are all there
+-- HNHBS is there, and the HNSHA are all there
 pub record IsEndOf (number : ℕ) (s : OwnedSegment) (openers body ends : ℕ) : Type 0 where
   pub last : IsLast number s
   pub place : s.head.number ≡ 2 + (openers + (body + ends))
   pub all : ends ≡ openers
 
--- the same behind these inner segments
+-- the same after these inner segments
 abbrev pub IsEndBehind : ℕ → OwnedSegment → Inner → Type 0
 IsEndBehind number s inner =
     IsEndOf number s (length inner.openers.items) (length inner.body.items) (length inner.ends.items)
 
--- how bytes close where this segment, of so many bytes, stands at a place in them behind the inner segments: they
--- stop at it where it isn't HNHBS, and behind it where more bytes follow
+-- how bytes close where this segment, of `len` bytes, is at a place in them after the inner segments: they
+-- stop at it where it isn't HNHBS, and after it where more bytes follow
 abbrev pub ClosesAs : ℕ → List (List Spelled) → Inner → ℕ → ℕ → ℕ → Tail → Type 0
 ClosesAs number t inner at len size (Whole i last) =
     IsEndBehind number (segment_of t) inner × (size ≤ at + len) × (i ≡ inner) × (last ≡ t)
@@ -158,7 +158,7 @@ ClosesAs number t inner at len size (Stop stop slip) =
     ((stop ≡ at) × (IsEndBehind number (segment_of t) inner → ⊥))
     ⊎ ((stop ≡ at + len) × IsEndBehind number (segment_of t) inner × (at + len < size))
 
--- the bytes begin with this HNVSK, of so many bytes
+-- the bytes begin with this HNVSK, of `len` bytes
 pub record HasSealHead (bytes : List ℕ) (len : ℕ) (t : List (List Spelled)) : Type 0 where
   pub is_next : IsNextSegment bytes t len
   pub is_seal_head : IsSealHead (segment_of t)

@@ -18,7 +18,7 @@ abbrev pub MessageOrStop : Type 0
 MessageOrStop =
     (bytes : List ℕ) → ((m : MessageView) → IsMessage bytes m → ⊥) → ((a : ℕ) → CeasesAt bytes a → ⊥) → ⊥
 
--- bytes have one refusal at most, but for want of memory
+-- bytes have one refusal at most, apart from running out of memory
 abbrev pub OneRefusal : Type 0
 OneRefusal =
     (bytes : List ℕ) (f g : JudgeFault) → IsJudgeFault bytes f → IsJudgeFault bytes g → f ≢ Memory

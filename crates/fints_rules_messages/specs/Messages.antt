@@ -16,7 +16,7 @@ use Rattle.fints_rules_messages.specs.Parts.{part_of}
 use Rattle.fints_rules_messages.specs.declared.part.Part.TheVariants.{Opener, Body, Ender}
 
 -- What a message holds: its first segment, those in the middle, and its last. The inner segments are those in the middle, or
--- stand in the data of the HNVSD there; they hold the body, and `ends`, the HNSHA, one for each signature.
+-- are in the data of the HNVSD there; they hold the body, and `ends`, the HNSHA, one for each signature.
 pub record MessageView : Type 0 where
   pub size : ℕ
   pub protocol : Option ℕ
@@ -67,7 +67,7 @@ pub record IsEnvelope (inner : List OwnedSegment) (s : OwnedSegment) : Type 0 wh
   pub item : item_at s 2 1 ≡ Bin bytes
   pub holds : IsText bytes inner
 
--- the inner segments as they stand in the sealed form: HNVSK, and HNVSD with them in it
+-- the inner segments as they are in the sealed form: HNVSK, and HNVSD with them in it
 pub record Seals (inner middle : List OwnedSegment) : Type 0 where
   pub seal_head : OwnedSegment
   pub envelope : OwnedSegment
@@ -102,7 +102,7 @@ abbrev pub Begins : ℕ → List OwnedSegment → Type 0
 Begins size segments = (segments ≡ []) ⊎ ((more : List OwnedSegment) × AreMessage size (segments ++ more))
 
 -- The bytes begin with the texts of segments that begin a whole, and the offset is their end.
--- No segment's text stands there, or that segment can't follow; and where the bytes end there, the whole isn't reached.
+-- No segment's text is there, or that segment can't follow; and where the bytes end there, the whole isn't reached.
 pub record Stops (BeginsOne IsOne : List OwnedSegment → Type 0) (bytes : List ℕ) (offset : ℕ) : Type 0 where
   pub front : List (List (List Spelled))
   pub rest : List ℕ

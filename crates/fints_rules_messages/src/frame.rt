@@ -31,7 +31,7 @@ pub fn is_seal_head(view: &SegmentView<'_>) -> bool
     view.is_named(b"HNVSK", HNVSK_VERSION) && view.number() == HNVSK_NUMBER
 }
 
-// Whether it is HNHBS behind the inner segments.
+// Whether it is HNHBS after the inner segments.
 fn is_end(view: &SegmentView<'_>, number: u64, inner: &Inner<'_>) -> bool
     ensures { IsTrue result ↔ IsEndBehind number (segment_of view.now) inner.now }
 {
@@ -44,7 +44,7 @@ fn is_end(view: &SegmentView<'_>, number: u64, inner: &Inner<'_>) -> bool
     inner.ends.len() == inner.openers.len()
 }
 
-/// What closes the bytes of a message: the segment of `len` bytes at this offset, behind the inner segments.
+/// What closes the bytes of a message: the segment of `len` bytes at this offset, after the inner segments.
 pub fn close<'a>(
     bytes: &[u8],
     at: usize,

@@ -8,7 +8,7 @@ use crate::part::{Part, part_of};
 use fints_syntax::{SegmentView, parse_segment};
 use std::alloc::{AllocError, Global};
 
-/// The segment that stands at the front, and its length.
+/// The segment at the front, and its length.
 pub fn next_segment(bytes: &[u8]) -> Option<(SegmentView<'_>, usize)>
     ensures some { IfSome result (λ r. IsNextSegment bytes.now r.0 r.1) }
     ensures none { IfNone result (HasNoNext bytes.now) }
@@ -19,7 +19,7 @@ pub fn next_segment(bytes: &[u8]) -> Option<(SegmentView<'_>, usize)>
     }
 }
 
-/// Whether a segment can stand behind the inner segments.
+/// Whether a segment can come after the inner segments.
 pub fn can_stand(view: &SegmentView<'_>, inner: &Inner<'_>) -> bool
     ensures few { IsTrue result → (segment_of view.now).head.number < 2 ^ 16 }
     ensures stands { IsTrue result ↔ CanStandBehind inner.now (segment_of view.now) }
@@ -36,7 +36,7 @@ pub fn can_stand(view: &SegmentView<'_>, inner: &Inner<'_>) -> bool
     }
 }
 
-// The segment at the front, where it can stand behind the inner segments, and its length.
+// The segment at the front, where it can come after the inner segments, and its length.
 fn next_inner<'b>(bytes: &'b [u8], inner: &Inner<'_>) -> Option<(SegmentView<'b>, usize)>
     ensures next { IfSome result (λ r. IsNextSegment bytes.now r.0 r.1) }
     ensures stands { IfSome result (λ r. CanStandBehind inner.now (segment_of r.0)) }

@@ -21,7 +21,7 @@ pub fn message_or_stop()
     ensures { MessageOrStop }
 {}
 
-/// The segments of a body are numbered on from the one behind the message's HNSHK.
+/// The segments of a body are numbered on from the one after the message's HNSHK.
 pub fn numbered_bodies()
     ensures { (bytes : List ℕ) (m : MessageView) → IsMessage bytes m → IsNumbered (2 + length m.ends) m.body }
 {}

@@ -16,7 +16,7 @@ use std::alloc::{AllocError, Global};
 use std::marker::Model;
 use thiserror::Error;
 
-/// A message, whose segments stand in the bytes that it was read from; a contract sees its values.
+/// A message, whose segments are in the bytes that it was read from; a contract sees its values.
 #[derive(Drop)]
 pub struct Message<'a> {
     size: usize,

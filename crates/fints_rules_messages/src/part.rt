@@ -18,7 +18,7 @@ pub enum Part {
     Body,
     /// HNSHA.
     Ender,
-    /// No segment that can stand there.
+    /// No segment that can come there.
     Other,
 }
 

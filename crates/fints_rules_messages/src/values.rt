@@ -32,7 +32,7 @@ fn number_of_item(item: &Item<'_>, least: usize, most: usize) -> Option<u64>
     Some(number)
 }
 
-/// The number that stands at an item of an element, from element 2 on, of `least` to `most` digits.
+/// The number in an item of an element, from element 2 on, of `least` to `most` digits.
 pub fn number_at(
     view: &SegmentView<'_>,
     element: usize,

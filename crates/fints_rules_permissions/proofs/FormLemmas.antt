@@ -58,7 +58,7 @@ forms_more rows row forms more holds fresh updates q =
     is_none None h = refl
     is_none (Some x) h = absurd (false≢true (sym h))
 
--- ---- whether a kind and version stands in a list
+-- ---- whether a kind and version is in a list
 
 found_step : (b : Bool) (x : OrderRow) (o : Option OrderRow) (rest : Bool)
     → is_some (option_map (λ (r : OrderRow). r.form) o) ≡ rest

@@ -1,4 +1,4 @@
--- What stands in joined, mapped and filtered lists.
+-- What is in joined, mapped and filtered lists.
 use Rattle.std.proofs.Common.{◌≡◌, ◌⊎◌, zero, suc, ◌<◌, Bool, true, List, [], ◌∷◌, ◌++◌, length, get_or, map, refl, ap, ◌∙◌, sym, subst, arith, inl, inr}
 use Rattle.std.specs.Prelude.{All, Any, Contains, filter}
 use Rattle.std.specs.List.{flat_map}

@@ -28,7 +28,7 @@ rows_one (x ∷ a) (y ∷ b) e =
 are_one : (entries : List Data) (a b : List OrderRow) → AreRows entries a → AreRows entries b → a ≡ b
 are_one entries a b h g = rows_one a b (sym h.each ∙ g.each)
 
--- an entry behind good rows, and the row that it is
+-- an entry after good rows, and the row that it is
 pub record Next (a b : List OrderRow) (entry : Data) : Type 0 where
   pub row : OrderRow
   pub more : List OrderRow
@@ -94,7 +94,7 @@ order_of (d ∷ bs) (f ∷ cs) a c x y e =
       | after more h ↦ after more (λ i. one i ∷ h i)
     ]
 
--- both are of one entry, behind the same rows
+-- both are of one entry, after the same rows
 pub record Agree (Bad Worse : List OrderRow → Data → Type 0) (n m : ℕ) : Type 0 where
   pub number : n ≡ m
   pub rows : List OrderRow

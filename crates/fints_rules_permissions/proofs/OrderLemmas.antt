@@ -18,7 +18,7 @@ pub item_list-view : (vs : List Value) → item_list (items_view vs) ≡ map vie
 item_list-view [] = refl
 item_list-view (v ∷ vs) = ap (λ ds. view v ∷ ds) (item_list-view vs)
 
--- what stands past a list of entries
+-- what is past a list of entries
 pub no_data : Data
 no_data = string []
 

@@ -96,7 +96,7 @@ module _ {X K : Type 0} {cmp : K → K → Ordering} (total : IsTotalOrder cmp)
         let far : is_lt (ranked_cmp cmp key rank (get_or xs j d) (get_or xs i d)) ≡ false = sorted_far _ weak xs up i j d le lt in
         stays_before a b (cmp a q) refl (first_not_less (cmp b a) _ far) h
 
-    -- a row of the key stands there or later
+    -- a row of the key is there or later
     no_earlier : (xs : List X) (i j : ℕ) (d : X) → BeginsAt cmp key q xs i → j < length xs
         → key (get_or xs j d) ≡ q → i ≤ j
     no_earlier xs i j d at lt e = elim (cases_lt j i) [
@@ -108,7 +108,7 @@ module _ {X K : Type 0} {cmp : K → K → Ordering} (total : IsTotalOrder cmp)
       | inr le ↦ le
     ]
 
-    -- and the first that stands there is of the key too, and has no greater rank
+    -- and the first that is there is of the key too, and has no greater rank
     level_first : (a : K) (o : Ordering) → cmp a q ≡ o → is_lt o ≡ false → is_lt (cmp q a) ≡ false → a ≡ q
     level_first a Less e h up = cc
     level_first a Equal e h up = exact a q e

@@ -1,4 +1,4 @@
--- The map of forms, by kind and version. Private contracts and the invariant of `OrderTable` alone cite these words.
+-- The map of forms, by kind and version. Only private contracts and the invariant of `OrderTable` use it.
 use Rattle.std.specs.Prelude.{◌≡◌, List, Option}
 use Rattle.fints_rules_permissions.specs.declared.keys.OrderKey.{OrderKey}
 use Rattle.fints_rules_permissions.specs.Orders.{form_of}

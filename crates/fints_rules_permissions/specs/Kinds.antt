@@ -21,7 +21,7 @@ is_tan_order kind = bytes_eq kind (codes "HKTAN")
 abbrev pub is_plain_order : List ℕ → Bool
 is_plain_order kind = is_order kind && not (is_tan_order kind)
 
--- an order of which an order table may have a row: five characters, the first two HK or DK
+-- an order that may have a row in an order table: five characters, the first two HK or DK
 abbrev pub is_table_kind : List ℕ → Bool
 is_table_kind text =
     ((length text == 5) && (bytes_eq (take 2 text) (codes "HK") || bytes_eq (take 2 text) (codes "DK")))

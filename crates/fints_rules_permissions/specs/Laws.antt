@@ -9,7 +9,7 @@ use Rattle.fints_rules_permissions.specs.Orders.{DenotesTable, IsTableFault}
 abbrev pub OneTable : Type 0
 OneTable = (text : List ℕ) (a b : List OrderRow) → DenotesTable text a → DenotesTable text b → a ≡ b
 
--- it has one first refusal at most, but for want of memory
+-- it has one first refusal at most, apart from running out of memory
 abbrev pub OneTableFault : Type 0
 OneTableFault =
     (text : List ℕ) (f g : TableFault) → IsTableFault text f → IsTableFault text g → f ≢ Memory → g ≢ Memory

@@ -1,4 +1,4 @@
--- The maps of limits and of demands, row by row. Private contracts, the invariant of `Permissions` and proofs alone cite these words.
+-- The maps of limits and of demands, row by row. Only private contracts, the invariant of `Permissions` and proofs use this file.
 use Rattle.std.specs.Prelude.{ℕ, Bool, true, false, ◌||◌, ◌==◌, if◌then◌else◌, List, max, nat_lt, unwrap_or, Option, Some, None}
 use Rattle.fints_params.specs.declared.rows.OrderParam.{OrderParam}
 use Rattle.fints_params.specs.declared.rows.PinRow.{PinRow}
@@ -21,7 +21,7 @@ HoldsPins pins found = (kind : List ℕ) → PinIs pins kind (found kind)
 
 -- ---- one more row
 
--- the lower of two limits, of which 0 is none
+-- the lower of two limits, where 0 is no limit
 abbrev pub lower : ℕ → ℕ → ℕ
 lower m n = if m == 0 then n else if n == 0 then m else if nat_lt n m then n else m
 

@@ -1,4 +1,4 @@
--- The entries of accounts in the order in which they are looked for. Private contracts and the invariant of `Permissions` alone cite this file.
+-- The entries of accounts in the order in which they are looked for. Only private contracts and the invariant of `Permissions` use this file.
 use Rattle.std.specs.Prelude.{ℕ, ◌≡◌, ◌≤◌, Bool, true, false, List, [], ◌∷◌, Option, Some, None, Contains, slice_get}
 use Rattle.std.specs.Cmp.Lexicographic.{slice_cmp}
 use Rattle.std.specs.List.{flat_map}
@@ -78,7 +78,7 @@ abbrev pub seen_as : Naming → AccountRow → Entry → Seen
 seen_as naming row entry =
     record { account = account_by naming row; kind = entry.kind; signatures = entry.signatures }
 
--- what stands for no entry
+-- what is used where there is no entry
 abbrev pub nothing : Seen
 nothing = record { account = by_items [] [] [] []; kind = []; signatures = 0 }
 

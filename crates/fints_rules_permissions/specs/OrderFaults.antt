@@ -1,4 +1,4 @@
--- The refusals of an order table, as its parts give them. Private contracts alone cite these words.
+-- The refusals of an order table, as its parts give them. Only private contracts use this file.
 use Rattle.std.specs.Prelude.{◌≡◌, codes, true, false, List, Option}
 use Rattle.toml.specs.Data.{Data, Members, get_member}
 use Rattle.fints_rules_permissions.specs.declared.orders.OrderRow.{OrderRow}

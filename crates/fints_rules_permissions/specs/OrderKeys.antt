@@ -1,4 +1,4 @@
--- A kind and a version as the key of a map. Private contracts, the invariants of types and proofs alone cite these words.
+-- A kind and a version as the key of a map. Only private contracts, the invariants of types and proofs use this file.
 use Rattle.std.specs.Prelude.{Bool, ◌&&◌, ◌==◌}
 use Rattle.std.specs.Str.{bytes_eq}
 use Rattle.fints_params.specs.declared.rows.OrderParam.{OrderParam}

@@ -58,7 +58,7 @@ pub record AreRows (entries : List Data) (rows : List OrderRow) : Type 0 where
   pub each : map row_of entries ≡ map Some rows
   pub distinct : AllPairs (λ a b. IsSameOrder a b → ⊥) rows
 
--- the n-th entry, from 1 on, stands behind good rows and can't be one more
+-- the n-th entry, from 1 on, comes after good rows and can't be one more
 pub record IsFirstBad (entries : List Data) (n : ℕ) (Bad : List OrderRow → Data → Type 0) : Type 0 where
   pub earlier : List Data
   pub entry : Data
@@ -81,7 +81,7 @@ IsTableAt None rows = rows ≡ []
 IsTableAt (Some (array ds)) rows = (length (item_list ds) ≤ MAX_ROWS) × AreRows (item_list ds) rows
 IsTableAt (Some _) rows = ⊥
 
--- row 0 is an `order` that is no array, and row 1,001 stands for too many
+-- row 0 is an `order` that is no array, and row 1,001 means too many
 abbrev pub IsBadRowAt : Option Data → ℕ → Type 0
 IsBadRowAt None n = ⊥
 IsBadRowAt (Some (array ds)) n =
@@ -110,7 +110,7 @@ pub record HasOrders (text : List ℕ) (P : Option Data → Type 0) : Type 0 whe
 abbrev pub DenotesTable : List ℕ → List OrderRow → Type 0
 DenotesTable text rows = HasOrders text (λ found. IsTableAt found rows)
 
--- a key stands there that is not `order`
+-- it has a key that is not `order`
 pub record HasUnknownKey (text : List ℕ) : Type 0 where
   pub members : Members
   pub toml : document text ≡ Some members

@@ -1,4 +1,4 @@
--- A part of permissions, which is held or shared. Private contracts and the model of `Permissions` alone cite this file.
+-- A part of permissions, which is held or shared. Only private contracts and the model of `Permissions` use this file.
 use Rattle.fints_rules_permissions.specs.declared.permissions.Part.{Part}
 use Rattle.fints_rules_permissions.specs.declared.permissions.Part.TheVariants.{Held, Shared}
 

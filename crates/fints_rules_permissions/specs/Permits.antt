@@ -19,12 +19,12 @@ use Rattle.fints_rules_permissions.specs.Accounts.{Account}
 use Rattle.fints_rules_permissions.specs.AccountRows.{Matches}
 use Rattle.fints_rules_permissions.specs.Kinds.{is_plain_order}
 
--- what `Permissions` stands for: the rows of a capture and of an order table
+-- what `Permissions` holds: the rows of a capture and of an order table
 pub record Granted : Type 0 where
   pub rows : Rows
   pub orders : List OrderRow
 
--- what its part of the bank stands for: the bank's rows of a capture, and an order table's
+-- what its part of the bank holds: the bank's rows of a capture, and an order table's
 pub record BankGranted : Type 0 where
   pub rows : BankRows
   pub orders : List OrderRow
@@ -56,7 +56,7 @@ pub record IsLimits (rows : List OrderParam) (limits : Limits) : Type 0 where
   pub orders : IsLeastLimit rows limits.orders
   pub signatures : IsGreatestNeed rows limits.signatures
 
--- the limits of all rows of a kind and version, of which there may be none
+-- the limits of all rows of a kind and version, if there are any
 abbrev pub LimitsAre : List OrderParam → Option Limits → Type 0
 LimitsAre rows None = rows ≡ []
 LimitsAre rows (Some limits) = IsLimits rows limits

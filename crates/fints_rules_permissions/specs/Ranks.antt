@@ -1,5 +1,5 @@
 -- Rows in order of their keys, and those of a key in order of their ranks, so that the first of a key has the
--- least rank. Private contracts and the invariants of types alone cite these words.
+-- least rank. Only private contracts and the invariants of types use this file.
 use Rattle.std.specs.Prelude.{◌≡◌, ◌≤◌, ℕ, true, false, List, Option, Some, None, Contains}
 use Rattle.std.specs.List.Sorted.{IsPartitionPoint}
 use Rattle.std.specs.declared.cmp.Ordering.{Ordering}

@@ -1,4 +1,4 @@
--- The rows of HITANS as a table. Private contracts and the invariant of `Permissions` alone cite these words.
+-- The rows of HITANS as a table. Only private contracts and the invariant of `Permissions` use this file.
 use Rattle.std.specs.Prelude.{◌≡◌, ◌↔◌, ◌==◌, ◌&&◌, ℕ, Bool, not, IsTrue, List}
 use Rattle.std.specs.BTreeSet.{contains}
 use Rattle.std.specs.List.{list_any}

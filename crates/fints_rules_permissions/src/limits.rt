@@ -38,7 +38,7 @@ pub type LimitMap = IndexMap<OrderKey, Limits, KeyedHashing>;
 /// Whether a TAN is demanded, by kind.
 pub type PinMap = IndexMap<Kind, bool, KeyedHashing>;
 
-// The lower of two limits, of which 0 is none.
+// The lower of two limits, where 0 is no limit.
 fn lower(m: u32, n: u32) -> u32
     ensures { result ≡ lower m n }
 {

@@ -20,7 +20,7 @@ enum Naming {
     Items,
 }
 
-// Where an entry stands among the rows, and the name of its account by which it is found here.
+// Where an entry is among the rows, and the name of its account by which it is found here.
 #[derive(Clone, Copy)]
 struct Place {
     naming: Naming,
@@ -28,8 +28,8 @@ struct Place {
     entry: usize,
 }
 
-/// What an entry is looked for by: its account, by its IBAN alone or by its four national items,
-/// of which the number stands in the place of the IBAN; and its kind.
+/// What an entry is looked for by: its account, by just its IBAN or by its four national items,
+/// with the number in the place of the IBAN; and its kind.
 #[derive(Clone, Copy)]
 pub struct NeedKey<'a> {
     pub by_iban: bool,
@@ -40,7 +40,7 @@ pub struct NeedKey<'a> {
     pub kind: &'a [u8],
 }
 
-// Field by field; behind the first in which they differ no other is looked at.
+// Field by field; after the first in which they differ no other is looked at.
 fn compare_keys(a: &NeedKey<'_>, b: &NeedKey<'_>) -> Ordering
     ensures { result ≡ key_cmp (key_in a.now) (key_in b.now) }
 {
@@ -91,7 +91,7 @@ fn key_of<'a>(naming: Naming, row: &'a AccountRow, entry: &'a Entry) -> NeedKey<
     }
 }
 
-// The key of the entry at a place; that of an empty account where none stands there.
+// The key of the entry at a place; that of an empty account where there is none.
 fn key_at<'a>(rows: &'a [AccountRow], place: &Place) -> NeedKey<'a>
     ensures { key_in result ≡ seen_key (seen_at rows.now place.now) }
 {
@@ -110,7 +110,7 @@ fn key_at<'a>(rows: &'a [AccountRow], place: &Place) -> NeedKey<'a>
     }
 }
 
-// How many signatures the entry at a place needs; none where none stands there.
+// How many signatures the entry at a place needs; none where there is no entry.
 fn signatures_at(rows: &[AccountRow], place: &Place) -> u32
     ensures { result ≡ (seen_at rows.now place.now).signatures }
 {
@@ -133,7 +133,7 @@ fn compare(rows: &[AccountRow], a: &Place, b: &Place) -> Ordering
     signatures_at(rows, a).cmp(&signatures_at(rows, b))
 }
 
-// How an entry stands to a key.
+// How an entry compares to a key.
 fn compare_key(rows: &[AccountRow], place: &Place, key: &NeedKey<'_>) -> Ordering
     ensures { result ≡ key_cmp (seen_key (seen_at rows.now place.now)) (key_in key.now) }
 {

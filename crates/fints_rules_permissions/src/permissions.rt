@@ -202,7 +202,7 @@ impl<'a> Permissions<'a> {
         }
     }
 
-    /// Whether an account permits an order of this kind with so many signatures.
+    /// Whether an account permits an order of this kind with this many signatures.
     pub fn permit(&self, kind: Kind, account: &AccountKey<'_>, signatures: usize) -> Permit
         ensures { PermitIs self.now.rows account.now kind signatures result }
     {

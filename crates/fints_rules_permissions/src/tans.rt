@@ -12,7 +12,7 @@ use std::collections::BTreeSet;
 /// What the rows of HITANS say of TAN procedures, found once.
 #[derive(Drop)]
 pub struct TanTable {
-    /// The versions of which some row takes one order at a time.
+    /// The versions with some row that takes one order at a time.
     pub single: BTreeSet<u16>,
     /// Whether rows are there, and none lets a TAN go with its order.
     pub two_steps: bool,

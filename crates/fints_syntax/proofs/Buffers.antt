@@ -20,7 +20,7 @@ ready_with bytes piece rest limit to front ready le is =
     let own = begun_goes_on (drop to.whole bytes) piece limit to.rest ready (omega (arith, length-drop to.whole bytes)) in
     subst (λ (xs : List ℕ). IsReady (take limit xs) to.rest) (sym (is ∙ drop-append-le to.whole bytes piece front)) own
 
--- a fault that isn't want of memory
+-- a fault other than running out of memory
 pub unfed : (failed : Option ℕ) (old : Buffered) (piece rest : List ℕ) (f : SyntaxFault) (new : Buffered)
     → failed ≡ None → f.kind ≢ Memory → rest ≡ rest_with old piece → IsStreamFault (rest_at old) rest f
     → IsHalted old f.offset new → IsUnfed failed old piece f new

@@ -28,7 +28,7 @@ few_ends (t ∷ ts) =
     let ih = few_ends ts in
     elim (cases_Bool (eqb t.after 58)) [ inl e ↦ rw e (omega arith) | inr e ↦ rw e (omega arith) ]
 
--- behind the head are the other elements
+-- after the head are the other elements
 pub count_behind : (es : List (List Spelled)) (ts : List Token) → IsFramed es
     → ts ≡ after_element (segment_tokens es) → 1 + ends_left ts ≡ length es
 count_behind [] ts f is = absurd (omega (arith, f.some))

@@ -30,7 +30,7 @@ nothing_begun gap = let e : drop {A = ℕ} gap [] ≡ [] = drop_all {X = ℕ} ga
 abbrev pub fed_by : Buffered → List ℕ → Fed
 fed_by b places = record { rest = b.bytes; at = b.at; failed = b.failed; places = places }
 
--- ---- a piece that is taken, where the rest alone was kept
+-- ---- a piece that is taken, where only the rest was kept
 
 rest_is : (old : Buffered) (piece : List ℕ) → old.to.whole ≡ 0 → rest_with old piece ≡ old.bytes ++ piece
 rest_is old piece e = ap (λ (n : ℕ). drop n (old.bytes ++ piece)) e
@@ -115,7 +115,7 @@ few rest piece b at placed r segments ready unended h is =
 
 -- ---- a piece that is refused
 
--- want of memory, where no fault is kept then
+-- out of memory, where no fault is kept then
 unhalted : (failed : Option ℕ) (old : Buffered) (piece : List ℕ) (f : SyntaxFault) (new : Buffered)
     (r : Option SyntaxFault) → failed ≡ None → IsUnfed failed old piece f new
     → r ≡ option_map failed_at new.failed → is_some r ≡ false → IsMemory f × (new ≡ old)

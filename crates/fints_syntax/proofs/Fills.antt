@@ -43,7 +43,7 @@ values_rest : (es : List (List Spelled)) → values_of (drop 1 es) ≡ drop 1 (v
 values_rest [] = refl
 values_rest (e ∷ es) = refl
 
--- what is behind the head
+-- what comes after the head
 pub values_behind : (es : List (List Spelled)) (tokens : List Token) → IsFramed es
     → tokens ≡ after_element (segment_tokens es) → values_of (read_elements tokens) ≡ drop 1 (values_of es)
 values_behind es tokens f is =

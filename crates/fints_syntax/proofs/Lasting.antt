@@ -44,7 +44,7 @@ cut_in_data : (tail ds front : List ℕ) → IsLength ds → length front ≤ di
     → tail ≡ ds ++ 64 ∷ front → IsCutBinary (64 ∷ tail)
 cut_in_data tail ds front h le e = inr (ds, front, h, le, ap (λ (x : List ℕ). 64 ∷ x) e)
 
--- what stands behind the digits of a length, where a list is parted behind them
+-- what comes after the digits of a length, where a list is parted after them
 after_digits : (tail ds m w more : List ℕ) → AllDigits 10 ds → length ds ≤ 9 → tail ≡ ds ++ m
     → 64 ∷ w ≡ m ++ more → IsCutBinary (64 ∷ tail) ⊎ ((n : List ℕ) × (tail ≡ ds ++ 64 ∷ n) × (w ≡ n ++ more))
 after_digits tail ds [] w more all short e f = inl (cut_in_digits tail ds [] all short (sym (append-nil ds) ∙ sym e ∙ sym (append-nil tail)))

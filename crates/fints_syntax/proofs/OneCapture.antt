@@ -113,7 +113,7 @@ pub regroup : (p : Piece) (ps : List Piece) (x : List ℕ)
     (p ∷ ps) ++ x ≡ p.gap ++ (segment_bytes p.elements ++ (flat_map piece_bytes ps ++ x))
 regroup p ps x = simp append_assoc
 
--- one piece alone, against line breaks at the end
+-- one piece by itself, against line breaks at the end
 no_piece : (p : Piece) (ps : List Piece) (tail x : List ℕ) → IsPiece p → AllByRecursion IsBreak tail
     → flat_map piece_bytes (p ∷ ps) ++ x ≡ tail → ⊥
 no_piece p ps tail x h b e =

@@ -25,7 +25,7 @@ nothing_left : (left : List Token) (more rest : List ℕ) → AllByRecursion IsC
 nothing_left [] more rest o e none = e
 nothing_left (t ∷ ts) more rest o e none = absurd (none (subst BeginsWithItem (sym e) (begins_token t ts rest (token_open t o.0))))
 
--- the first bad `@` stands at one offset
+-- the first bad `@` has one offset
 bad_one : (w : List ℕ) (o p : ℕ) → IsBadAt w o → IsBadAt w p → o ≡ p
 bad_one w o p (n, few, opens, le, bad) (m, small, others, within, worse) =
     let r = leaves opens.tokens others.tokens (drop o w) (drop p w) opens.each others.each (sym opens.text ∙ others.text) worse.no_item in
@@ -112,7 +112,7 @@ no_segment_at input f h b = kind_only f.kind f.offset input h b
 
 -- ---- where segments cease
 
--- no segment follows, behind whatever line breaks
+-- no segment follows, after whatever line breaks
 abbrev pub Ends : List ℕ → Type 0
 Ends x = (gap : List ℕ) (es : List (List Spelled)) (more : List ℕ) → AllByRecursion IsBreak gap → IsSegment es → gap ++ (segment_bytes es ++ more) ≡ x → ⊥
 
@@ -178,7 +178,7 @@ same_places at (p ∷ ps) (q ∷ qs) x y h g c d e =
     let rest = r.0 ∙ ap (λ (n : ℕ). placed_from n qs) next in
     (λ i. one i ∷ rest i, r.1)
 
--- the segments of a capture stand at one list of places
+-- the segments of a capture have one list of places
 pub one_placed : (input : List ℕ) (p q : List Placed) → IsPlacedCapture input p → IsPlacedCapture input q
     → p ≡ q
 one_placed input p q (x, b, r) (y, d, s) =
@@ -246,7 +246,7 @@ long_one w k l o p (inl (a, b, c)) (inr (n, g)) = absurd (not_sound w l p n g c)
 long_one w k l o p (inr (n, f)) (inl (d, e, c)) = absurd (not_sound w k o n f c)
 long_one w k l o p (inr (n, f)) (inr (m, g)) = faults_one w k l o p f g
 
--- a capture has one fault at most, but for want of memory
+-- a capture has one fault at most, apart from running out of memory
 pub one_capture_fault : (input : List ℕ) (f g : SyntaxFault) → IsCaptureFault input f → IsCaptureFault input g
     → f.kind ≢ Memory → g.kind ≢ Memory → f ≡ g
 one_capture_fault input f g h k n m = same_fault f g (elim (cases_lt MAX_CAPTURE (length input)) [

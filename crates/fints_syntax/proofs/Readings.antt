@@ -1,4 +1,4 @@
--- What is written for a segment is read back as that segment alone.
+-- What is written for a segment is read back as only that segment.
 use Rattle.std.proofs.Common.{◌≡◌, ℕ, ◌+◌, ◌<◌, List, [], ◌∷◌, ◌++◌, length, get_or, take, drop, refl, ap, ◌∙◌, sym, subst, arith, length-append, Option, Some, unwrap_or}
 use Rattle.std.specs.Prelude.{◌↔◌}
 use Rattle.std.proofs.lemmas.List.{take_at, take-append-drop, length-take-le, map-append, take_more}
@@ -50,7 +50,7 @@ written_front s rest h = record {
   within = omega (arith, length-append (written_segment s) rest);
 }
 
--- what is written for a segment is read back as that segment alone
+-- what is written for a segment is read back as only that segment
 pub read_back : (s t : OwnedSegment) (rest : List ℕ) (len : ℕ) → IsWritable s
     → BeginsWithText (written_segment s ++ rest) t len ↔ ((t ≡ s) × (len ≡ length (written_segment s)))
 read_back s t rest len h =

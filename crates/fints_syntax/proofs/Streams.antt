@@ -18,7 +18,7 @@ use Rattle.fints_syntax.specs.declared.window.Search.{Search}
 use Rattle.fints_syntax.proofs.Captures.{Run, run_start, run_start-whole, run_more, run_more-whole, faults}
 use Rattle.fints_syntax.proofs.Windows.{search_goes_on}
 
--- the whole segments so far, and the line breaks behind them
+-- the whole segments so far, and the line breaks after them
 pub record Going (bytes : List ℕ) (whole start : ℕ) (search : Search) (placed : List Placed) : Type 0 where
   pub run : Run bytes start placed
   pub whole_is : length (flat_map piece_bytes run.pieces) ≡ whole
@@ -54,7 +54,7 @@ going_order bytes whole start search placed g =
     ∙ ap (λ (n : ℕ). length (flat_map piece_bytes r.pieces) + n) (length-append r.gap (drop start bytes)) in
     (omega (arith, g.whole_is, r.start_is), omega (arith, r.start_is, size))
 
--- line breaks behind line breaks
+-- line breaks after line breaks
 breaks-append : (xs ys : List ℕ) → AllByRecursion IsBreak xs → AllByRecursion IsBreak ys
     → AllByRecursion IsBreak (xs ++ ys)
 breaks-append [] ys h g = g

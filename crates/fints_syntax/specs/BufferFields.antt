@@ -1,4 +1,4 @@
--- What a buffer shows of its fields, and what it keeps of them. Its model alone cites these words.
+-- What a buffer shows of its fields, and what it keeps of them. Only its model uses this file.
 use Rattle.std.specs.Prelude.{◌+◌, ◌≤◌, length, drop}
 use Rattle.fints_syntax.specs.Streams.{IsReady}
 use Rattle.fints_syntax.specs.Buffered.{Buffered}

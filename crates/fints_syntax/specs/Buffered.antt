@@ -33,7 +33,7 @@ rest_at b = b.at + b.to.whole
 abbrev pub rest_with : Buffered → List ℕ → List ℕ
 rest_with b piece = drop b.to.whole (b.bytes ++ piece)
 
--- where a segment begins behind the whole ones and their line breaks, among the bytes, if one does
+-- where a segment begins after the whole ones and their line breaks, among the bytes, if one does
 abbrev pub read_end : ReadTo → ℕ
 read_end to = to.whole + to.rest.gap
 
@@ -51,7 +51,7 @@ pub record IsFed (old : Buffered) (piece : List ℕ) (placed : List Placed) (new
         failed = None;
       }
 
--- after a fault its offset alone is kept
+-- after a fault only its offset is kept
 pub record IsHalted (old : Buffered) (offset : ℕ) (new : Buffered) : Type 0 where
   pub bytes : new.bytes ≡ []
   pub at : new.at ≡ old.at
@@ -62,7 +62,7 @@ pub record IsHalted (old : Buffered) (offset : ℕ) (new : Buffered) : Type 0 wh
 abbrev pub failed_at : ℕ → SyntaxFault
 failed_at offset = record { kind = Failed; offset = offset }
 
--- a piece is refused for want of memory, and all is as before, or for the stream's fault
+-- a piece is refused when memory runs out, and all is as before, or for the stream's fault
 abbrev pub IsFeedFault : Buffered → List ℕ → SyntaxFault → Buffered → Type 0
 IsFeedFault old piece f new =
     (IsMemory f × (new ≡ old))

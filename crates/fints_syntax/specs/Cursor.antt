@@ -1,4 +1,4 @@
--- What a cursor over a segment's text has left: items, each with the byte after it. Private contracts alone cite these words.
+-- What a cursor over a segment's text has left: items, each with the byte after it. Only private contracts use this file.
 use Rattle.std.specs.Prelude.{◌≡◌, ◌==◌, if◌then◌else◌, ℕ, ◌+◌, ◌≤◌, List, [], ◌∷◌, length, map, Option, Some, None}
 use Rattle.fints_syntax_segments.specs.Spelling.{Spelled, IsSpelled, item_of}
 use Rattle.fints_syntax_segments.specs.Segment.{Token, item_value, tokens_bytes}

@@ -12,8 +12,8 @@ use Rattle.fints_syntax.specs.declared.capture.TheConstants.{MAX_CAPTURE}
 use Rattle.fints_syntax_segments.specs.declared.item.OwnedSegment.{OwnedSegment}
 
 -- What a feeder keeps: the bytes after the last whole segment, their offset in the stream, once it has met a
--- fault the fault's offset, and the places of the segments that the last piece gave, one that was refused for
--- want of memory not counted.
+-- fault the fault's offset, and the places of the segments that the last piece gave, one that was refused
+-- because memory ran out not counted.
 pub record Fed : Type 0 where
   pub rest : List ℕ
   pub at : ℕ
@@ -39,7 +39,7 @@ pub record IsGiven (old : Fed) (piece : List ℕ) (segments : List OwnedSegment)
 abbrev pub stopped : Fed → ℕ → Fed
 stopped fed offset = record { rest = []; at = fed.at; failed = Some offset; places = [] }
 
--- a sound feeder refuses a piece for want of memory, and is as before, or for the stream's fault, after which it keeps the fault's offset alone
+-- a sound feeder refuses a piece when memory runs out, and is as before, or for the stream's fault, then keeping only its offset
 abbrev pub IsStopped : Fed → List ℕ → SyntaxFault → Fed → Type 0
 IsStopped old piece f new =
     (IsMemory f × (new ≡ old))
@@ -51,7 +51,7 @@ abbrev pub IsNotGiven : Option ℕ → Fed → List ℕ → SyntaxFault → Fed 
 IsNotGiven (Some offset) old piece f new = (f ≡ failed_at offset) × (new ≡ old)
 IsNotGiven None old piece f new = IsStopped old piece f new
 
--- the rest is line breaks and a segment that has begun behind them, which has no end
+-- the rest is line breaks and after them a segment that has begun, which has no end
 pub record IsCut (fed : Fed) (f : SyntaxFault) : Type 0 where
   pub kind : f.kind ≡ Incomplete
   pub gap : List ℕ

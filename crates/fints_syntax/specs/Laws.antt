@@ -51,7 +51,7 @@ NothingElseIsRead =
     → len ≤ length (written_segment s ++ rest) → take len (written_segment s ++ rest) ≡ segment_bytes es
     → (es ≡ written_tree s) × (len ≡ length (written_segment s))
 
--- the bytes begin with a text of this segment, of so many bytes
+-- the bytes begin with a text of this segment, of `len` bytes
 pub record BeginsWithText (bytes : List ℕ) (s : OwnedSegment) (len : ℕ) : Type 0 where
   pub elements : List (List Spelled)
   pub segment : IsSegment elements
@@ -80,7 +80,7 @@ abbrev pub NoSegmentAtFault : Type 0
 NoSegmentAtFault =
     (input : List ℕ) (f : SyntaxFault) → IsFault input f → BeginsWithSegment (window_of input) → ⊥
 
--- how far bytes without a whole segment are looked at stays true where more bytes follow, of which at most `limit` are read
+-- how far bytes without a whole segment are looked at stays true where more follow and at most `limit` are read
 abbrev pub BegunGoesOn : Type 0
 BegunGoesOn =
     (rest more : List ℕ) (limit : ℕ) (b : Begun) → IsReady rest b → length rest ≤ limit
@@ -124,7 +124,7 @@ OneSplit =
     (bytes : List ℕ) (p q : List Placed) (x y : List ℕ) → SplitsInto bytes p x → SplitsInto bytes q y
     → (p ≡ q) × (x ≡ y)
 
--- and no fault then, unless more bytes may mend it
+-- and no fault then, unless more bytes may fix it
 abbrev pub NoSplitAtFault : Type 0
 NoSplitAtFault =
     (bytes : List ℕ) (p : List Placed) (x : List ℕ) (kind : SyntaxKind) (o : ℕ) → SplitsInto bytes p x
@@ -141,18 +141,18 @@ abbrev pub OneCapture : Type 0
 OneCapture =
     (input : List ℕ) (s t : List (List (List Spelled))) → IsCapture input s → IsCapture input t → s ≡ t
 
--- bytes with a fault, but for want of memory, are no capture where they are within the limit
+-- bytes with a fault other than running out of memory are no capture where they are within the limit
 abbrev pub NoCaptureAtFault : Type 0
 NoCaptureAtFault =
     (input : List ℕ) (f : SyntaxFault) (s : List (List (List Spelled))) → IsCaptureFault input f
     → f.kind ≢ Memory → length input ≤ MAX_CAPTURE → IsCapture input s → ⊥
 
--- the segments of a capture stand at one list of places
+-- the segments of a capture have one list of places
 abbrev pub OnePlacedCapture : Type 0
 OnePlacedCapture =
     (input : List ℕ) (p q : List Placed) → IsPlacedCapture input p → IsPlacedCapture input q → p ≡ q
 
--- a capture has one fault at most, but for want of memory: one kind, and one offset
+-- a capture has one fault at most, apart from running out of memory: one kind, and one offset
 abbrev pub OneCaptureFault : Type 0
 OneCaptureFault =
     (input : List ℕ) (f g : SyntaxFault) → IsCaptureFault input f → IsCaptureFault input g → f.kind ≢ Memory
@@ -163,7 +163,7 @@ abbrev pub SegmentOrFault : Type 0
 SegmentOrFault =
     (input : List ℕ) → BeginsWithSegment (window_of input) ⊎ ((f : SyntaxFault) × IsFault input f)
 
--- each list of bytes is a capture within the limit, or has a fault that isn't want of memory
+-- each list of bytes is a capture within the limit, or has a fault other than running out of memory
 abbrev pub CaptureOrFault : Type 0
 CaptureOrFault = (input : List ℕ)
     → ((length input ≤ MAX_CAPTURE) × (placed : List Placed) × IsPlacedCapture input placed)

@@ -1,4 +1,4 @@
--- How many bytes items take, and that an item starts in its segment. Proofs alone cite it.
+-- How many bytes items take, and that an item starts in its segment. Only proofs use this file.
 use Rattle.std.proofs.Common.{◌≡◌, ℕ, ◌+◌, ◌≤◌, List, [], ◌∷◌, ◌++◌, length, refl, ap, arith, Some}
 use Rattle.std.proofs.lemmas.List.{length-append}
 use Rattle.std.proofs.lemmas.List.Concat.{flat_map-append}

@@ -1,5 +1,5 @@
--- A segment in whose bytes no `?` (63) and no `@` (64) stands ends at its first `'` (39). Private contracts
--- alone cite these words.
+-- A segment whose bytes have no `?` (63) and no `@` (64) ends at its first `'` (39). Only private contracts
+-- use this file.
 use Rattle.std.specs.Prelude.{◌≡◌, ◌≢◌, ℕ, ◌+◌, ◌<◌, List, length, take, slice_index}
 use Rattle.std.specs.List.{AllByRecursion}
 use Rattle.fints_syntax_segments.specs.declared.limits.TheConstants.{MAX_ITEMS}

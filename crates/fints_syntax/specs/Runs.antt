@@ -1,4 +1,4 @@
--- The faults of bytes of any length, read as segments with line breaks between them. Private contracts alone cite these words.
+-- The faults of bytes of any length, read as segments with line breaks between them. Only private contracts use this file.
 use Rattle.std.specs.Prelude.{◌≡◌, ℕ, List}
 use Rattle.fints_syntax.specs.Capture.{FaultsAt}
 use Rattle.fints_syntax.specs.declared.fault.SyntaxFault.{SyntaxFault}

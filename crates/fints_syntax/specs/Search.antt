@@ -14,7 +14,7 @@ pub record BeginsWithUnits (bytes : List ℕ) (n : ℕ) : Type 0 where
   pub size : length (text_bytes units) ≡ n
   pub text : bytes ≡ text_bytes units ++ drop n bytes
 
--- so many items, each followed by `+` or `:`, stand in the first `at` bytes
+-- this many items, each followed by `+` or `:`, are in the first `at` bytes
 pub record SoFar (window : List ℕ) (items at : ℕ) : Type 0 where
   pub tokens : List Token
   pub each : AllByRecursion IsContinued tokens
@@ -22,7 +22,7 @@ pub record SoFar (window : List ℕ) (items at : ℕ) : Type 0 where
   pub at_is : length (tokens_bytes tokens) ≡ at
   pub text : window ≡ tokens_bytes tokens ++ drop at window
 
--- the same, and so many bytes of the next item, which is no binary one where there are any
+-- the same, and this many bytes of the next item, which is no binary one where there are any
 pub record IsSearched (window : List ℕ) (s : Search) : Type 0 where
   pub so_far : SoFar window s.items s.at
   pub few : s.items < MAX_ITEMS

@@ -1,5 +1,5 @@
--- Segments in bytes that come in pieces: which of them are whole, and what is left for the next piece. Words
--- of private contracts and proofs alone stand last, under a heading.
+-- Segments in bytes that come in pieces: which of them are whole, and what is left for the next piece. What
+-- only private contracts and proofs use comes last, under a heading.
 use Rattle.std.specs.Prelude.{◌≡◌, ◌≢◌, ◌⊎◌, ℕ, ◌+◌, ◌-◌, ◌<◌, ◌≤◌, ◌==◌, Bool, List, [], ◌∷◌, ◌++◌, length, map, take, drop}
 use Rattle.std.specs.List.{AllByRecursion}
 use Rattle.std.specs.Option.{option_map, unwrap_or}
@@ -24,7 +24,7 @@ abbrev pub IsBegun : List ℕ → Type 0
 IsBegun [] = Unit {0}
 IsBegun (b ∷ bs) = (IsBreak b → ⊥) × KindAt Incomplete 0 (b ∷ bs)
 
--- line breaks, and behind them the segment that has begun, if one has
+-- line breaks, and after them the segment that has begun, if one has
 pub record IsRest (rest : List ℕ) : Type 0 where
   pub gap : List ℕ
   pub begun : List ℕ
@@ -49,7 +49,7 @@ data_place p = unwrap_or (option_map (λ o. p.start + o) (start_of p.segment 2 1
 abbrev pub whole_len : List ℕ → List ℕ → ℕ
 whole_len bytes rest = length bytes - length rest
 
--- so many bytes are line breaks, and behind them the search has come so far
+-- this many bytes are line breaks, and after them the search has come so far
 pub record IsReady (rest : List ℕ) (b : Begun) : Type 0 where
   pub within : b.gap ≤ length rest
   pub breaks : AllByRecursion IsBreak (take b.gap rest)
@@ -62,26 +62,26 @@ pub record IsReadTo (bytes : List ℕ) (placed : List Placed) (r : ReadTo) : Typ
   pub ready : IsReady (drop r.whole bytes) r.rest
   pub unended : IsBegun (drop r.rest.gap (drop r.whole bytes))
 
--- The fault of bytes of which at most `limit` are read: an unfinished segment is none, since more bytes may
--- end it; and where more bytes stand there, and those that are read have no fault, there are too many.
+-- The fault of bytes where at most `limit` are read: an unfinished segment is none, since more bytes may
+-- end it; and where more bytes follow, and those that are read have no fault, there are too many.
 abbrev pub PieceFaultAt : ℕ → SyntaxKind → ℕ → List ℕ → Type 0
 PieceFaultAt limit CaptureTooLong o bytes =
     (o ≡ limit) × (limit < length bytes) × (placed : List Placed) × (rest : List ℕ)
     × SplitsInto (take limit bytes) placed rest
 PieceFaultAt limit kind o bytes = (kind ≢ Incomplete) × FaultsAt (take limit bytes) kind o
 
--- want of memory
+-- out of memory
 abbrev pub IsMemory : SyntaxFault → Type 0
 IsMemory f = f ≡ record { kind = Memory; offset = 0 }
 
--- want of memory, or the fault of a stream, of which these bytes stand from `at` on; its offset is counted in the stream
+-- out of memory, or the fault of a stream, in which these bytes begin at `at`; its offset is counted in the stream
 abbrev pub IsStreamFault : ℕ → List ℕ → SyntaxFault → Type 0
 IsStreamFault at bytes f =
     IsMemory f ⊎ ((o : ℕ) × (f.offset ≡ at + o) × PieceFaultAt (MAX_CAPTURE - at) f.kind o bytes)
 
--- ---- of private contracts and proofs alone
+-- ---- of private contracts and proofs only
 
--- want of memory, or a fault of the bytes that no further byte mends
+-- out of memory, or a fault of the bytes that no further byte fixes
 abbrev pub IsPieceStop : ℕ → List ℕ → SyntaxFault → Type 0
 IsPieceStop at bytes f =
     IsMemory f ⊎ ((o : ℕ) × (f.offset ≡ at + o) × (f.kind ≢ Incomplete) × FaultsAt bytes f.kind o)

@@ -1,4 +1,4 @@
--- What is taken of a piece. Private contracts alone cite these words.
+-- What is taken of a piece. Only private contracts use this file.
 use Rattle.std.specs.Prelude.{◌≡◌, List, map}
 use Rattle.fints_syntax.specs.Owned.{segment_of}
 use Rattle.fints_syntax.specs.Streams.{data_place}

@@ -86,8 +86,8 @@ impl StreamBuffer {
 
     /// Keeps a piece, and hands on the segments that are whole with it. A fault is that of the stream
     /// so far, with its offset in the stream; an unfinished segment is none, and of the stream
-    /// 4,194,304 bytes are read. After a fault every piece is refused with its offset. After want of
-    /// memory what is kept is as before; what took the segments may have taken some then.
+    /// 4,194,304 bytes are read. After a fault every piece is refused with its offset. When memory runs
+    /// out, what is kept is as before; what took the segments may have taken some then.
     pub fn feed<T: Taker>(&mut self, piece: &[u8], taker: &mut T) -> Result<(), SyntaxFault>
         ensures fed { OnOk result ((placed : List Placed) × IsFed self.old piece.now placed self.new
             × ((seen : List Placed) → T.good seen taker.old
@@ -165,7 +165,7 @@ impl StreamBuffer {
         }
     }
 
-    /// Whether the stream may end behind the bytes, all of which are read, or where the segment begins
+    /// Whether the stream may end after the bytes, which are all read, or where the segment begins
     /// that doesn't end in them.
     pub fn begun_at(&self) -> Option<usize>
         ensures { MatchOption result (length self.now.bytes ≤ read_end self.now.to) (λ offset.

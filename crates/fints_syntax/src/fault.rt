@@ -10,7 +10,7 @@ use thiserror::Error;
 /// What is wrong with bytes that are read as segments (FinTS 3.0, Formals, the syntax of segments).
 #[derive(Clone, Copy, Debug, PartialEq, Eq)]
 pub enum SyntaxKind {
-    /// A growth was refused. It has offset 0, and `parse_segment` never answers it.
+    /// An allocation failed. It has offset 0, and `parse_segment` never returns it.
     Memory,
     /// An `@` begins an item, but no binary item; its offset is that of the `@`.
     BadBinary,
@@ -22,7 +22,7 @@ pub enum SyntaxKind {
     BadHead,
     /// A capture passes 4,194,304 bytes, which is the offset. `parse_segment` never answers it.
     CaptureTooLong,
-    /// What reads a stream has met a fault before, at the offset. A feeder and a reader of parameters alone answer it.
+    /// What reads a stream met a fault before, at the offset. Only a feeder and a parameter reader return it.
     Failed,
 }
 

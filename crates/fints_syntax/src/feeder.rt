@@ -47,7 +47,7 @@ impl Feeder {
 
     /// The segments that the piece completes, in order. A fault is that of the stream so far, with
     /// its offset in the stream, but an unfinished segment is none; of the stream 4,194,304 bytes
-    /// are read. After a fault every piece is refused with its offset. After want of memory the
+    /// are read. After a fault every piece is refused with its offset. When memory runs out the
     /// feeder is as before, so that the piece may be fed again.
     pub fn feed(&mut self, piece: &[u8]) -> Result<Vec<OwnedSegment>, SyntaxFault>
         ensures given { IfOk result (λ v. IsGiven self.old piece.now v.items self.new) }
@@ -76,7 +76,7 @@ impl Feeder {
 
     /// Takes the places of the segments that the last piece gave, in their order, and leaves none:
     /// for each the offset in the stream of item 1 of element 2, of its data where it is binary, or
-    /// 0 where there is no element 2. A piece that was refused for want of memory counts as none. It
+    /// 0 where there is no element 2. A piece that was refused because memory ran out counts as none. It
     /// takes no memory.
     pub fn take_places(&mut self) -> Vec<usize>
         ensures places { result.items ≡ self.old.places }

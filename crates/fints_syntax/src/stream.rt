@@ -17,9 +17,9 @@ use fints_syntax_segments::Memory;
 /// from there.
 #[derive(Clone, Copy)]
 pub struct Begun {
-    /// How many line breaks stand at the front.
+    /// How many line breaks are at the front.
     pub gap: usize,
-    /// How far the segment behind them is looked at.
+    /// How far the segment after them is looked at.
     pub search: Search,
 }
 
@@ -40,7 +40,7 @@ impl Begun {
 pub struct ReadTo {
     /// How many bytes the whole segments take, with the line breaks before and between them.
     pub whole: usize,
-    /// How far the bytes behind them are looked at.
+    /// How far the bytes after them are looked at.
     pub rest: Begun,
 }
 
@@ -71,7 +71,7 @@ pub fn data_place(start: usize, segment: &SegmentView<'_>) -> usize
     }
 }
 
-// Where the segment behind the line breaks begins, and how far it is looked at.
+// Where the segment after the line breaks begins, and how far it is looked at.
 fn begin(bytes: &[u8], from: Begun) -> Begun
     requires { IsReady bytes.now from }
     ensures ready { IsReady bytes.now result }
@@ -88,7 +88,7 @@ fn begin(bytes: &[u8], from: Begun) -> Begun
     }
 }
 
-// More bytes may mend the fault.
+// More bytes may fix the fault.
 fn is_unfinished(kind: SyntaxKind) -> bool
     ensures { IsTrue result ↔ (kind ≡ kinds.Incomplete) }
 {
@@ -106,7 +106,7 @@ fn read_to(whole: usize, start: usize, search: Search) -> ReadTo
     }
 }
 
-// Gives all whole segments of the bytes, which stand in a stream from `at` on.
+// Gives all whole segments of the bytes, which begin at `at` in a stream.
 fn read_on<T: Taker>(
     bytes: &[u8],
     at: usize,
@@ -147,7 +147,7 @@ fn read_on<T: Taker>(
     Ok(read_to(whole, start, search))
 }
 
-/// Gives all whole segments of bytes that stand in a stream from `at` on, one after the other, each
+/// Gives all whole segments of bytes that begin at `at` in a stream, one after the other, each
 /// with its offset in the stream. `from` says how far the bytes at the front were looked at before;
 /// they hold no whole segment. The answer says how far the bytes are read then. An unfinished
 /// segment is no fault, since more bytes may end it. Of the stream 4,194,304 bytes are read: where

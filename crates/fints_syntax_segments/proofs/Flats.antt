@@ -1,4 +1,4 @@
--- Lists that runs of other lists stand for.
+-- Lists given by runs of other lists.
 use Rattle.std.proofs.Common.{◌≡◌, ℕ, zero, suc, ◌+◌, ◌-◌, ◌<◌, ◌≤◌, List, [], ◌∷◌, Some, None, ◌++◌, length, take, drop, map, get_or, cond, refl, ap, ◌∙◌, sym, arith}
 use Rattle.std.specs.List.{AllByRecursion}
 use Rattle.std.proofs.lemmas.List.{length-append, map-append, length-map, drop_at, take_all, take-append-drop, length-drop}

@@ -1,4 +1,4 @@
--- The elements of an owned segment, none of which is not whole; each filling has an item in each whole one.
+-- The elements of an owned segment, which are all whole; each filling has an item in each whole one.
 use Rattle.std.specs.Prelude.{◌≡◌, List, []}
 use Rattle.fints_syntax_segments.specs.declared.item.OwnedItem.{OwnedItem}
 use Rattle.fints_syntax_segments.specs.declared.item.Elements.TheInside.{Inside}

@@ -1,4 +1,4 @@
--- Elements that are held in three lists: bytes, where items stand in them, and where elements stand among the items.
+-- Elements that are held in three lists: bytes, where items are in them, and where elements are in the items.
 use Rattle.std.specs.Prelude.{◌<◌, ◌≤◌, ◌+◌, ℕ, List, length, map, take, drop, cond}
 use Rattle.std.specs.List.{AllByRecursion}
 use Rattle.fints_syntax_segments.specs.declared.item.OwnedItem.{OwnedItem}

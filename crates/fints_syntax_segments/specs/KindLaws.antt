@@ -1,4 +1,4 @@
--- What an identifier is, part by part. Proofs and private contracts alone cite it.
+-- What an identifier is, part by part. Only proofs and private contracts use this file.
 use Rattle.std.proofs.Common.{◌≡◌, ℕ, ◌<◌, ◌≤◌, Bool, true, false, ◌&&◌, ◌||◌, leb, List, length, refl, ap, Some, None, cond}
 use Rattle.std.specs.Prelude.{IsSome}
 use Rattle.std.specs.List.{list_all}

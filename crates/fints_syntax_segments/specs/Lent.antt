@@ -1,4 +1,4 @@
--- An item by its value, where it stands.
+-- An item by its value, in place.
 use Rattle.fints_syntax_segments.specs.declared.item.OwnedItem.{OwnedItem}
 use Rattle.fints_syntax_segments.specs.declared.item.OwnedItem.TheVariants as Owned
 use Rattle.fints_syntax_segments.specs.declared.element.ItemRef.{ItemRef}

@@ -1,4 +1,4 @@
--- Numbers of so many digits; leading zeros are accepted.
+-- Numbers of n digits; leading zeros are accepted.
 use Rattle.std.specs.Prelude.{ℕ, ◌&&◌, nat_le, if◌then◌else◌, List, length, Option, Some, None}
 use Rattle.std.specs.Str.{all_ascii_digits}
 use Rattle.std.specs.Str.Parse.{digits_value}

@@ -28,7 +28,7 @@ abbrev pub IsUnit : TextUnit → Type 0
 IsUnit (escaped b) = Unit {0}
 IsUnit (plain b) = (b ≢ 43) × (b ≢ 58) × (b ≢ 39) × (b ≢ 63)
 
--- an `@` alone is no first unit
+-- an `@` by itself is no first unit
 abbrev pub IsTextStart : List TextUnit → Type 0
 IsTextStart [] = Unit {0}
 IsTextStart (escaped b ∷ us) = Unit {0}

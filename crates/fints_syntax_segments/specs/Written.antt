@@ -1,4 +1,4 @@
--- The written text of a segment. Words of private contracts and proofs alone stand last, under a heading.
+-- The written text of a segment. What only private contracts and proofs use comes last, under a heading.
 use Rattle.std.specs.Prelude.{◌≡◌, ℕ, ◌<◌, ◌≤◌, List, [], ◌∷◌, length, map, take, Option, Some, None, IfSome}
 use Rattle.std.specs.List.{AllByRecursion}
 use Rattle.std.specs.Fmt.{decimal}
@@ -36,7 +36,7 @@ written_segment s = segment_bytes (written_tree s)
 abbrev pub KeepsFront : List ℕ → List ℕ → Type 0
 KeepsFront old new = take (length old) new ≡ old
 
--- ---- of private contracts and proofs alone
+-- ---- of private contracts and proofs only
 
 -- what a segment has, within the limits
 pub record IsWritable (s : OwnedSegment) : Type 0 where

@@ -8,7 +8,7 @@ ghost use Rattle.fints_syntax_segments.specs.Lent.{item_of_ref};
 
 use std::marker::Model;
 
-/// Where the value of an item stands among the bytes.
+/// Where the value of an item is among the bytes.
 #[derive(Clone, Copy)]
 pub struct Span {
     pub start: usize,
@@ -16,7 +16,7 @@ pub struct Span {
     pub binary: bool,
 }
 
-/// An item by its value, where it stands.
+/// An item by its value, in place.
 #[derive(Clone, Copy)]
 pub enum ItemRef<'a> {
     Text(&'a [u8]),

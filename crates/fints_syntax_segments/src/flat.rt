@@ -10,7 +10,7 @@ use crate::item::OwnedItem;
 use std::alloc::{AllocError, Global};
 use std::marker::Model;
 
-/// Where the items of an element stand among the items.
+/// Where the items of an element are among the items.
 #[derive(Clone, Copy)]
 pub struct Group {
     pub first: usize,
@@ -45,7 +45,7 @@ pub trait Valued {
     /// The item by its value.
     ghost owned: { Self → OwnedItem };
 
-    /// Puts the bytes of the value behind what `out` held; where memory runs out, a part of them.
+    /// Appends the bytes of the value to `out`; where memory runs out, a part of them.
     fn append_value(&self, out: &mut Vec<u8>) -> Result<(), AllocError>
         ensures added { OnOk result (out.new.items ≡ out.old.items ++ item_value (owned self.now)) }
         ensures kept { OnErr result (KeepsFront out.old.items out.new.items) };

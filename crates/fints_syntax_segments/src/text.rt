@@ -36,7 +36,7 @@ impl FaultText {
         .and(text)
     }
 
-    /// The text, and then another; one without room is left out.
+    /// The text, and then another; one that doesn't fit is left out.
     pub fn and(mut self, text: &str) -> FaultText
         ensures text { length self + length text.now ≤ 128 → result ≡ self ++ text.now }
         ensures short { length result ≤ length self + length text.now }

@@ -76,9 +76,9 @@ pub fn write_segment(out: &mut Vec<u8>, segment: &OwnedSegment) -> Result<(), Me
     }
 }
 
-// The functions below may leave a part behind what `out` held, where memory runs out.
+// The functions below may leave a part after what `out` held, where memory runs out.
 
-// A byte of a text item, behind its `?` where it is one of the syntax.
+// A byte of a text item, after its `?` where it is one of the syntax.
 fn append_unit(out: &mut Vec<u8>, b: u8) -> Result<(), Memory>
     ensures written { OnOk result (out.new.items ≡ out.old.items ++ unit_bytes (written_unit b)) }
     ensures kept { OnErr result (KeepsFront out.old.items out.new.items) }

@@ -30,7 +30,7 @@ pub document_none : (text : List ℕ) → (IsUtf8 text → parse_document text �
 unfolding document
 document_none text h = test_false (is_utf8 text) (nat_le (length text) 1048576) (parse_document text) (λ e. h (IsUtf8-from_is_utf8 text e))
 
--- what the keys of a map say of the members that it stands for
+-- what the keys of a map say of the members that it denotes
 pub only_keys_view : (names : List (List ℕ)) (es : List Entry)
     → list_all (λ k. is_among names (string_bytes k)) (keys_of es) ≡ only_keys names (members_view es)
 only_keys_view names [] = refl

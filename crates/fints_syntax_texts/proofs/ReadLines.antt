@@ -7,7 +7,7 @@ use Rattle.fints_syntax_texts.specs.Lines.{text_of_lines, AreTexts, BeginsText, 
 use Rattle.fints_syntax_texts.specs.LineLaws.{all_front, length_taken, lines_long, not_empty, refused_at, split_same, text_short, text_taken}
 use Rattle.fints_syntax_texts.specs.declared.lines.TheConstants.{MAX_TEXT}
 
--- the lines so far begin a text of the kind, and the rest stands behind them
+-- the lines so far begin a text of the kind, and the rest comes after them
 pub record IsReadTo (Good : List (List ℕ) → Type 0) (text rest : List ℕ) (lines : List (List ℕ)) (n : ℕ)
     : Type 0 where
   pub begins : BeginsText Good lines
@@ -72,7 +72,7 @@ module _ (Good : List (List ℕ) → Type 0) (texts : AreTexts Good) (text : Lis
       ∙ ap (λ (t : List ℕ). t ++ more) (sym headed.front_is)))))
 
   module _ (rest : List ℕ) (lines : List (List ℕ)) (n : ℕ) (read : IsReadTo Good text rest lines n) where
-    -- no line that stands next is one of a text of the kind
+    -- no line that comes next is one of a text of the kind
     stops_before : (length rest ≡ 0 → Good lines → ⊥)
         → ((line more : List ℕ) → IsNextLine (length text) rest line more
         → BeginsText Good (lines ++ line ∷ []) → ⊥)

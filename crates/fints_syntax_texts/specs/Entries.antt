@@ -1,4 +1,4 @@
--- What stands at the keys of a table. Words of private contracts and proofs alone stand last, under a heading.
+-- What a table has at its keys. What only private contracts and proofs use comes last, under a heading.
 use Rattle.std.specs.Prelude.{codes, ℕ, Bool, false, List, Option, Some, None, option_and_then}
 use Rattle.std.specs.Str.{bytes_eq}
 use Rattle.toml.specs.Data.{Data, string, table, Members, get_member, as_str}
@@ -17,7 +17,7 @@ abbrev pub is_called : List ℕ → Data → Bool
 is_called name (table ms) = holds_text name (get_member (codes "name") ms)
 is_called name _ = false
 
--- ---- of private contracts and proofs alone
+-- ---- of private contracts and proofs only
 
 -- the name of a row, where it is a table that has one
 abbrev pub name_in : Data → Option (List ℕ)

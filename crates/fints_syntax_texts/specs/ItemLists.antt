@@ -1,4 +1,4 @@
--- The values of an array, in order. Proofs alone cite these words.
+-- The values of an array, in order. Only proofs use this file.
 use Rattle.std.proofs.Common.{◌≡◌, List, [], ◌∷◌, map, refl, ap, sym, ◌∙◌}
 use Rattle.std.specs.Prelude.{Vec}
 use Rattle.std.specs.declared.alloc.Global.{Global}

@@ -53,7 +53,7 @@ pub not_empty : (a b : List ℕ) → a ++ 10 ∷ b ≡ [] → ⊥
 not_empty [] b e = cc
 not_empty (x ∷ a) b e = cc
 
--- what stands after the first lines of a text are its other lines
+-- what comes after the first lines of a text are its other lines
 pub lines_after : (ls ms : List (List ℕ)) (rest : List ℕ) → All NoFeed ls → All NoFeed ms
     → text_of_lines ls ++ rest ≡ text_of_lines ms
     → (later : List (List ℕ)) × (ms ≡ ls ++ later) × (rest ≡ text_of_lines later)
@@ -191,7 +191,7 @@ module _ (Good : List (List ℕ) → Type 0) (without : (all : List (List ℕ)) 
   begins_without : (lines : List (List ℕ)) → BeginsText Good lines → All NoFeed lines
   begins_without lines b = all_front lines b.later (without (lines ++ b.later) b.good)
 
-  -- no text of the kind is this one, if it goes on with no good line, and these lines alone are none where it ends
+  -- no text of the kind is this one, if no good line follows, and these lines by themselves are none where it ends
   no_text_of : (text rest : List ℕ) (lines : List (List ℕ)) → BeginsText Good lines
       → text ≡ text_of_lines lines ++ rest → (length rest ≡ 0 → Good lines → ⊥)
       → ((line more : List ℕ) → rest ≡ line ++ 10 ∷ more → BeginsText Good (lines ++ line ∷ []) → ⊥)
@@ -209,7 +209,7 @@ module _ (Good : List (List ℕ) → Type 0) (without : (all : List (List ℕ)) 
             good = subst Good (whole ∙ sym (append_assoc lines (line ∷ []) later)) good;
           })
 
-  -- a reader stops behind these lines
+  -- a reader stops after these lines
   pub refused_at : (text rest : List ℕ) (lines : List (List ℕ)) (n : ℕ) → BeginsText Good lines
       → text ≡ text_of_lines lines ++ rest → n ≡ length lines + 1 → (length rest ≡ 0 → Good lines → ⊥)
       → ((line more : List ℕ) → rest ≡ line ++ 10 ∷ more → BeginsText Good (lines ++ line ∷ []) → ⊥)
@@ -273,7 +273,7 @@ shorter rest line more is =
 module _ (Good : List (List ℕ) → Type 0) (text : List ℕ)
     (none : (all : List (List ℕ)) → Good all → text ≢ text_of_lines all)
     (never : (n : ℕ) → IsFirstBadLineOf Good text n → ⊥) where
-  -- behind lines that begin a text of the kind stands a line that goes on with them
+  -- after lines that begin a text of the kind comes a line that goes on with them
   goes_on_behind : (lines : List (List ℕ)) (rest : List ℕ) → text ≡ text_of_lines lines ++ rest
       → BeginsText Good lines
       → ((line more : List ℕ) → rest ≡ line ++ 10 ∷ more → BeginsText Good (lines ++ line ∷ []) → ⊥) → ⊥

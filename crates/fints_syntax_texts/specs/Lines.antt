@@ -1,5 +1,5 @@
 -- Texts of lines: what lines spell, what a reader finds in a text, and which of its lines is refused first. A
--- line stands without the line feed (10) that ends it. Words of private contracts and proofs alone stand
+-- line is held without the line feed (10) that ends it. What only private contracts and proofs use comes
 -- last, under a heading.
 use Rattle.fints_syntax_texts.specs.declared.lines.TheConstants.{MAX_TEXT}
 use Rattle.std.specs.Prelude.{ℕ, ◌+◌, ◌-◌, ◌≡◌, ◌≢◌, ◌≤◌, Option, MatchOption, List, [], ◌∷◌, ◌++◌, length}
@@ -17,7 +17,7 @@ text_of_lines lines = flat_map (λ line. line ++ 10 ∷ []) lines
 abbrev pub IsSplit : ℕ → List ℕ → List ℕ → List ℕ → Type 0
 IsSplit byte text left right = (text ≡ left ++ byte ∷ right) × All (λ b. b ≢ byte) left
 
--- the rest of a text of `whole` bytes begins with this line, whose line feed stands within the limit, and then `more` stands there
+-- the rest of a text of `whole` bytes begins with this line, whose line feed is within the limit, and then comes `more`
 pub record IsNextLine (whole : ℕ) (rest line more : List ℕ) : Type 0 where
   pub split : IsSplit 10 rest line more
   pub within : whole - length more ≤ MAX_TEXT
@@ -26,14 +26,14 @@ pub record IsNextLine (whole : ℕ) (rest line more : List ℕ) : Type 0 where
 abbrev pub HasNoNextLine : ℕ → List ℕ → Type 0
 HasNoNextLine whole rest = (line more : List ℕ) → IsNextLine whole rest line more → ⊥
 
--- ---- which line is refused: `Good` tells which lists of lines make a text of the kind
+-- ---- which line is refused: `Good` says which lists of lines make a text of the kind
 
 -- these are the first lines of such a text, or all of them
 pub record BeginsText (Good : List (List ℕ) → Type 0) (lines : List (List ℕ)) : Type 0 where
   pub later : List (List ℕ)
   pub good : Good (lines ++ later)
 
--- the text is none of the kind: the lines before the n-th begin one, and the n-th with its line feed, if it stands there, is no next line of one
+-- the text is none of the kind: the lines before the n-th begin one, and the n-th with its line feed, if it is there, is no next line of one
 pub record IsFirstBadLineOf (Good : List (List ℕ) → Type 0) (text : List ℕ) (n : ℕ) : Type 0 where
   pub lines : List (List ℕ)
   pub rest : List ℕ
@@ -43,7 +43,7 @@ pub record IsFirstBadLineOf (Good : List (List ℕ) → Type 0) (text : List ℕ
   pub bad : (line more : List ℕ) → rest ≡ line ++ 10 ∷ more → BeginsText Good (lines ++ line ∷ []) → ⊥
   pub no_text : (all : List (List ℕ)) → Good all → text ≢ text_of_lines all
 
--- ---- what a reader of lines is told of a kind of text
+-- ---- what a reader of lines knows of a kind of text
 
 -- without a line feed
 abbrev pub NoFeed : List ℕ → Type 0
@@ -60,7 +60,7 @@ pub record IsHeaded (Good : List (List ℕ) → Type 0) (front : List ℕ) (line
   pub lines_are : lines ≡ line ∷ []
   pub first : (all : List (List ℕ)) → Good all → (later : List (List ℕ)) × (all ≡ line ∷ later)
 
--- ---- of private contracts and proofs alone
+-- ---- of private contracts and proofs only
 
 -- what is found is a good value with this text, and nothing is found only where the text is that of no good value
 abbrev pub IsReadAs : {X : Type 0} → (X → Type 0) → (X → List ℕ) → List ℕ → Option X → Type 0

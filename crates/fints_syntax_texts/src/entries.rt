@@ -1,4 +1,4 @@
-//! What stands at the keys of a table.
+//! What a table has at its keys.
 ghost use Rattle.std.specs.Prelude.{◌≡◌, map, option_map};
 ghost use Rattle.std.specs.List.{list_any};
 ghost use Rattle.toml.specs.View.{table_view, view};

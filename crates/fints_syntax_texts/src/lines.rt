@@ -6,7 +6,7 @@ ghost use Rattle.fints_syntax_texts.specs.Lines.{IsSplit, IsNextLine, HasNoNextL
 /// The most bytes of a text.
 pub const MAX_TEXT: usize = 1_048_576;
 
-/// What stands after these bytes.
+/// What comes after these bytes.
 pub fn after<'a>(text: &'a [u8], front: &[u8]) -> Option<&'a [u8]>
     ensures rest { IfSome result (λ rest. text.now ≡ front.now ++ rest.now) }
     ensures none { IfNone result ((rest : List ℕ) → text.now ≢ front.now ++ rest) }
@@ -14,7 +14,7 @@ pub fn after<'a>(text: &'a [u8], front: &[u8]) -> Option<&'a [u8]>
     text.strip_prefix(front)
 }
 
-/// What stands before and after the first such byte.
+/// What comes before and after the first such byte.
 pub fn split_once(text: &[u8], byte: u8) -> Option<(&[u8], &[u8])>
     ensures parts { IfSome result (λ parts. IsSplit byte text.now parts.0.now parts.1.now) }
     ensures none { IfNone result (All (λ b. b ≢ byte) text.now) }
@@ -23,7 +23,7 @@ pub fn split_once(text: &[u8], byte: u8) -> Option<(&[u8], &[u8])>
     Some((&text[..end], &text[end + 1..]))
 }
 
-/// The line that the rest of a text of `whole` bytes begins with, and what stands after it.
+/// The line that the rest of a text of `whole` bytes begins with, and what comes after it.
 pub fn next_line(whole: usize, rest: &[u8]) -> Option<(&[u8], &[u8])>
     requires { length rest.now ≤ whole }
     ensures line { IfSome result (λ parts. IsNextLine whole rest.now parts.0.now parts.1.now) }

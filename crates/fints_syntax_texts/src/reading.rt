@@ -20,7 +20,7 @@ pub trait LineTaker {
     /// It can take another line.
     ghost ready: { Self → Type 0 };
 
-    /// Takes the next line, and tells whether it is one of a text of the kind.
+    /// Takes the next line, and returns whether it is one of a text of the kind.
     fn take(&mut self, line: &[u8]) -> Result<bool, Memory>
         requires ready { ready self.old }
         requires short { length (text_of_lines (lines self.old ++ line.now ∷ [])) ≤ MAX_TEXT }

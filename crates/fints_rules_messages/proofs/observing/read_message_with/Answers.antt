@@ -4,7 +4,7 @@ use Rattle.fints_rules_messages.proofs.OneStop.{no_stop}
 use Rattle.fints_syntax.proofs.LawLemmas.{one_segment_text}
 use Rattle.fints_rules_messages.proofs.observing.read_message_with.Goals as goal
 
--- a message has no other refusal than want of memory
+-- a message is refused for nothing but running out of memory
 pub returns-in-Err-clause-memory_alone : goal.returns-in-Err-clause-memory_alone
 returns-in-Err-clause-memory_alone g c =
     λ m is. absurd (no_stop one_segment_text _ _ m

@@ -5,7 +5,7 @@ use Rattle.std.proofs.lemmas.List.Folds.{list_all_more}
 use Rattle.fints_syntax_segments.specs.KindLaws.{is_kind_byte}
 use Rattle.fints_syntax_segments.proofs.kind.padded_kind.Goals as goal
 
--- one byte more is as in the text, and behind it zeros are left
+-- one byte more is as in the text, and after it zeros are left
 rest_of : (bs : List ℕ) (i x : ℕ) → drop i bs ≡ replicate (6 - i) 0
     → drop (i + 1) (set bs i x) ≡ replicate (6 - (i + 1)) 0
 rest_of bs i x zeros =
