@@ -28,7 +28,7 @@ items_of_fields fields values = map value_items (zip fields values)
 abbrev pub dialog_items : List (List OwnedItem) → ℕ → List OwnedItem
 dialog_items fields number = if number == 1 then Text (codes "0") ∷ [] else get_or fields 0 []
 
--- what is filled in, under a choice, in the message with this number
+-- what the message of a number is filled with under a choice
 abbrev pub filling_of : List NamedField → List NamedValue → ℕ → FillingValue
 filling_of fields values number =
     record {
