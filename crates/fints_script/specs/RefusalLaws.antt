@@ -178,7 +178,7 @@ InField earlier _ = Just kinds.WrongKind
 
 -- ---- elements
 
--- a field that is referred to; one of listed accounts comes only where it may (free)
+-- a field that is referred to; one of listed accounts is allowed only where `free`
 abbrev pub InFieldAt : List NamedField → Bool → Option ℕ → Kinds
 InFieldAt fields free None = Just kinds.NoSuchName
 InFieldAt fields free (Some place) =
