@@ -149,7 +149,7 @@ digits_text a b c d lb lc ld =
 whole : (n : ℕ) → n ≡ 1000 * (n / 1000) + 100 * ((n / 100) % 10) + 10 * ((n / 10) % 10) + n % 10
 whole n = omega arith
 
--- an opener with another digit at a place is one too, where the branch is free there and no earlier pattern singles out that digit
+-- an opener with another digit at a place is one too, if the branch is free there and no earlier pattern singles out that digit
 opener_lower : (branches : List Branch) (b other lower : ℕ) (u v : List ℕ) (e x : ℕ)
     → code_text other ≡ u ++ x ∷ v → code_text lower ≡ u ++ e ∷ v → lower < 10000
     → HasFree branches b (length u)
