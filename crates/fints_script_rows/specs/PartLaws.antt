@@ -76,7 +76,7 @@ chosen i j k a b c x y z = grind (arith, nat_tests)
 pub first_of_three : (i j k : FaultKind) → first_of i (first_of j k) ≡ first_of (first_of i j) k
 first_of_three i j k = chosen i j k (rank i) (rank j) (rank k) refl refl refl
 
--- ---- a part, or in its place that memory ran out
+-- ---- a part, or that memory ran out in its place
 
 abbrev Near : {X : Type 0} → Part X → Part X → Type 0
 Near p q = (p ≡ Err kinds.Memory) ⊎ (q ≡ p)
