@@ -16,7 +16,7 @@ use Rattle.fints_script_templates.specs.declared.template.TemplateItem.TheVarian
 
 -- ---- items
 
--- the field at a place; one of listed accounts comes only where it may (free)
+-- the field at a place; one of listed accounts is allowed only where `free`
 abbrev pub field_at : List NamedField → Bool → Option ℕ → Part TemplateItem
 field_at fields free None = Err kinds.NoSuchName
 field_at fields free (Some place) =
