@@ -1,4 +1,4 @@
--- The lines of a certificate: what they tell, and what may come next.
+-- The lines of a certificate: what they say, and what may come next.
 use Rattle.std.proofs.Common.{ℕ, suc, ◌+◌, ◌≡◌, ◌≢◌, Option, List, [], ◌∷◌, ◌++◌, map, codes, length, get_or, refl, ap, sym, subst, ◌∙◌, arith}
 use Rattle.std.specs.List.{All, AllPairs}
 use Rattle.std.proofs.lemmas.List.{append_assoc, length-append, get_or_append_left, get_or_at}

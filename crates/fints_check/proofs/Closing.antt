@@ -37,7 +37,7 @@ use Rattle.fints_wire.proofs.LawLemmas.{extremes_are_admitted_longest, messages_
 
 -- ---- lines and their figures
 
--- what is named stands among the figures
+-- what is named is among the figures
 named_figures : (lines : List Line) (n : ℕ) (figures : Reached) → Names lines n figures
     → numbered (line_figures lines) n ≡ Some (Some figures)
 named_figures lines zero figures h = absurd cc

@@ -103,7 +103,7 @@ module _ (granted : Granted) (script : ScriptValue) (lines : List Line) (sound :
       → SendsLast script values m
   last_of_run values before m s = (s.0, s.1.ends)
 
-  -- behind the message before it no message leaves an order unreleased
+  -- after the message before it no message leaves an order unreleased
   none_left : (values : List NamedValue) (b : Sent) (codes : List ℕ) (m : Sent) → Admits script.fields values
       → SendsAfter script values (behind b codes) m → BytesBreakRelease b.bytes codes m.bytes → ⊥
   none_left values b codes m admits s breaks =

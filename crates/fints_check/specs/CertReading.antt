@@ -1,4 +1,4 @@
--- What the reader of certificates knows on its way through a text. Private contracts alone cite these words.
+-- What the reader of certificates knows on its way through a text. Only private contracts cite these words.
 use Rattle.std.specs.Prelude.{◌≢◌, ◌≤◌, List, length}
 use Rattle.std.specs.List.{All, AllPairs}
 use Rattle.fints_script_fields.specs.NameSets.{HoldsNames}
@@ -18,7 +18,7 @@ pub record IsBegun (lines : List Line) : Type 0 where
   pub each : All IsStepLine lines
   pub short : length (cert_text lines) ≤ MAX_TEXT
 
--- a text may go on behind what was taken, in whose names each name is looked up
+-- a text may go on after what was taken, in whose names each name is looked up
 pub record IsReady (taken : Taken) : Type 0 where
   pub begun : IsBegun taken.lines.items
   pub names : HoldsNames (line_names taken.lines.items) taken.names

@@ -27,7 +27,7 @@ cert_lines lines = codes "fints-cert 2" ∷ map step_text lines
 abbrev pub cert_text : List Line → List ℕ
 cert_text lines = text_of_lines (cert_lines lines)
 
--- ---- which text stands for which certificate
+-- ---- which text denotes which certificate
 
 -- a number of 1 to 9 digits, at least 1
 abbrev pub IsFigure : ℕ → Type 0
@@ -48,11 +48,11 @@ pub record IsCertificate (lines : List Line) : Type 0 where
   pub each : All IsStepLine lines
   pub short : length (cert_text lines) ≤ MAX_TEXT
 
--- the text stands for this certificate
+-- the text denotes this certificate
 abbrev pub IsCertificateOf : List ℕ → List Line → Type 0
 IsCertificateOf text lines = IsCertificate lines × (text ≡ cert_text lines)
 
--- it stands for no two
+-- it denotes no two
 abbrev pub OneCertificate : List ℕ → Type 0
 OneCertificate text =
     (lines others : List Line) → IsCertificateOf text lines → IsCertificateOf text others → lines ≡ others

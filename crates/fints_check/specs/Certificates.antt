@@ -54,7 +54,7 @@ pub record IsEntered (steps : List StepValue) (lines : List Line) (n from : ℕ)
   pub named : Names lines n figures
   pub covers : IsEnough step from figures.number
 
--- behind messages of at most this number the target is a step that is named as reached, with a number that is enough, the same step or the end
+-- after messages of at most this number the target is a step that is named as reached, with a number that is enough, the same step or the end
 abbrev pub GoesOn : List StepValue → List Line → ℕ → Target → Type 0
 GoesOn steps lines number (targets.Step to) = IsEntered steps lines to (number + 1)
 GoesOn steps lines number targets.Again = Unit {0}

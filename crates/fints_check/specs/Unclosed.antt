@@ -1,4 +1,4 @@
--- Where what is open of a certificate is found: at the first step of which something is. Steps count from 1.
+-- Where what is open of a certificate is found: at the first step with something open. Steps count from 1.
 use Rattle.std.specs.Prelude.{ℕ, ◌≡◌, ◌<◌, Some, List}
 use Rattle.fints_rules_permissions.specs.Permits.{Granted}
 use Rattle.fints_script.specs.Numbered.{numbered}
@@ -51,7 +51,7 @@ IsOpenStep granted script lines n =
     (step : StepValue) → numbered script.steps n ≡ Some step
     → ((figures : Reached) → Names lines n figures → IsLineClosed granted script lines n step figures) → ⊥
 
--- step n is the first of which something is open; or n is 0, and the lines haven't the steps' names, or runs
+-- step n is the first with something open; or n is 0, and the lines haven't the steps' names, or runs
 -- can't begin with step 1 as its line says
 pub record IsFirstOpen (granted : Granted) (script : ScriptValue) (lines : List Line) (n : ℕ) : Type 0 where
   pub before : AreClosedBefore granted script lines n

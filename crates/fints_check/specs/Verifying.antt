@@ -1,4 +1,4 @@
--- What `verify` knows on its way. Private contracts alone cite these words.
+-- What `verify` knows on its way. Only private contracts cite these words.
 use Rattle.std.specs.Prelude.{ℕ, ◌≡◌, ◌↔◌, ◌≤◌, Bool, true, Option, Some, List, length, IfSome, IsNone}
 use Rattle.fints_script_cases.specs.Answers.{IsOpenTo}
 use Rattle.fints_script_cases.specs.declared.answers.Target.TheVariants as targets
@@ -16,7 +16,7 @@ use Rattle.fints_check.specs.Unclosed.{found_at, IsLineClosed}
 use Rattle.fints_check.specs.declared.certificate.Line.{Line}
 use Rattle.fints_check.specs.declared.unclosed.Open.{Open}
 
--- the flag of a step tells whether an open branch leads back to it
+-- the flag of a step says whether an open branch leads back to it
 pub record AreRepeats (steps : List StepValue) (repeats : List Bool) : Type 0 where
   pub long : length steps ≤ length repeats
   pub each : (n : ℕ) (step : StepValue) → numbered steps n ≡ Some step

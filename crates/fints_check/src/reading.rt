@@ -70,7 +70,7 @@ fn parse_reached(text: &[u8]) -> Option<Reached>
     })
 }
 
-// What a step's line tells of it: `-`, or its figures.
+// What a step's line says of it: `-`, or its figures.
 fn parse_figures(text: &[u8]) -> Option<Option<Reached>>
     ensures { IsReadAs AreShown figures_text text.now result }
 {
@@ -148,7 +148,7 @@ impl LineTaker for Taken {
 }
 
 impl Certificate {
-    /// The certificate that the text stands for. Each name is looked up in an ordered set.
+    /// The certificate that the text denotes. Each name is looked up in an ordered set.
     pub fn read(alloc: Global, text: &[u8]) -> Result<Certificate, CertFault>
         ensures certificate { IfOk result (λ certificate. IsCertificateOf text.now certificate) }
         ensures refusal { IfErr result (IsCertFault text.now) }

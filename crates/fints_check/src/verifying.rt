@@ -338,8 +338,8 @@ pub fn first_open(
 }
 
 /// Whether the certificate is closed, whoever wrote it. It then keeps its promise, and every message
-/// of every run is permitted. It takes no memory, and its work grows with the steps and branches of
-/// the plan alone. Permissions and plan were made with order tables of the same rows.
+/// of every run is permitted. It takes no memory, and its work grows only with the steps and branches of
+/// the plan. Permissions and plan were made with order tables of the same rows.
 pub fn verify(permissions: &Permissions<'_>, plan: &Plan<'_>, certificate: &Certificate) -> bool
     requires { permissions.now.orders ≡ plan.now.orders }
     ensures closed { IsTrue result ↔ IsClosedCertificate permissions.now plan.now.script certificate.now }

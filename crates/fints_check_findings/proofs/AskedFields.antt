@@ -1,4 +1,4 @@
--- Of which field P8 and P9 ask the accounts.
+-- Which field's accounts P8 and P9 are asked of.
 use Rattle.std.proofs.Common.{ℕ, ◌≡◌, ◌≢◌, ◌⊎◌, ◌∷◌, true, List, [], Some, refl, ap, sym, ◌∙◌, inl, inr}
 use Rattle.std.specs.List.{slice_get}
 use Rattle.fints_rules.specs.declared.rule.Rule.{Rule}

@@ -1,4 +1,4 @@
--- What stands beside the step of a finding of P11 in a report.
+-- What is beside the step of a finding of P11 in a report.
 use Rattle.std.proofs.Common.{ℕ, ◌≡◌, List, Option, refl, sym, subst}
 use Rattle.fints_check_reach.specs.Numbers.{AreGreatest, Has}
 use Rattle.fints_script.specs.Plans.{IsClosed}
@@ -39,7 +39,7 @@ pub held_beside : (steps : List StepValue) (numbers holders cells : List (Option
 held_beside steps numbers holders cells s t are same noted =
     are.each s t (subst (λ (xs : List (Option ℕ)). Has xs s t) same noted)
 
--- it is the first that runs send and of which that one leaves an order unreleased
+-- it is the first that runs send and whose order that one leaves unreleased
 pub first_beside : (script : ScriptValue) (orders : List OrderRow) (numbers holders cells : List (Option ℕ))
     (s t : ℕ) → IsSound script → IsClosed script orders → AreGreatest script.steps numbers
     → AreHolders script.steps numbers holders → cells ≡ holders → Has cells s t → IsFirstLeft script t s

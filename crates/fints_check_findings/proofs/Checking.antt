@@ -31,7 +31,7 @@ use Rattle.fints_script.specs.Sound.{IsSound}
 
 -- ---- numbers
 
--- what is read at a place is the cell of the number behind it
+-- what is read at a place is the cell of the number after it
 pub cell_at : {X : Type 0} (xs : List X) (i : ℕ) (cell : X) → i < length xs → cell ≡ get_or xs i cell
     → numbered xs (i + 1) ≡ Some cell
 cell_at {X} xs i cell less h =
@@ -129,7 +129,7 @@ reached_more figures new cell numbers i number e lt at same h =
     ap (λ (xs : List (Option ℕ)). map is_some xs) more ∙ map-append is_some (take i numbers) (number ∷ []) in
     left ∙ (ap (λ (fs : List Bool). fs ++ is_some cell ∷ []) h ∙ (ap (λ (b : Bool). map is_some (take i numbers) ++ b ∷ []) same ∙ sym right))
 
--- as much was looked at as the figures tell
+-- as much was looked at as the figures say
 pub visits_told : (steps : List StepValue) (figures : List (Option Reached)) (numbers : List (Option ℕ))
     (i visits : ℕ) → i ≡ length numbers → map is_some figures ≡ map is_some (take i numbers)
     → visits ≡ looked_at steps (map is_some numbers) → visits ≡ looked_at steps (map is_some figures)

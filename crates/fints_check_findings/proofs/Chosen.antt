@@ -34,7 +34,7 @@ module _ (fields : List NamedField) (s : SetAccount) (field : NamedField) (accou
       ∙ length-map fields with_shortest))
       h
 
-  -- what stands at a place of these values
+  -- what is at a place of these values
   value_there : (i : ℕ) (item : NamedField) (choice : Option ℕ) → slice_get fields i ≡ Some item
       → MatchOption choice (i ≢ s.field) (λ k. (i ≡ s.field) × (k ≡ s.account))
       → slice_get With i ≡ Some (value_of item (value_with item choice))

@@ -94,7 +94,7 @@ any_kind kind (t ∷ ts) =
     (eq_turned kind t.kind)
     ∙ ap (λ (b : Bool). has_kind kind t || b) (any_kind kind ts)
 
--- an order's kind is among those behind it exactly where a template there has it
+-- an order's kind is among those after it exactly where a template there has it
 among : (kind : List ℕ) (ts : List Template) → is_plain_order kind ≡ true
     → is_member bytes_eq (template_kinds ts) kind ≡ list_any (has_kind kind) ts
 among kind ts plain =

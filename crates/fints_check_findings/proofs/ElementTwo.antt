@@ -1,4 +1,4 @@
--- What stands in element 2 of a filled segment: its literals, or a listed account, wherever a rule asks for it.
+-- What element 2 of a filled segment holds: its literals, or a listed account, wherever a rule asks for it.
 use Rattle.std.proofs.Common.{ℕ, ◌<◌, ◌≡◌, ◌≢◌, Bool, true, false, cond, List, [], ◌∷◌, length, map, Option, Some, None, refl, ap, sym, subst, ◌∙◌, arith, inl, inr}
 use Rattle.std.specs.Prelude.{Any}
 use Rattle.std.specs.List.{list_all, slice_get}
@@ -181,7 +181,7 @@ module _ (fields : List NamedField) (t : Template) where
   two_field : (a : AccountAt fields (element_two t)) → element_at t 2 ≡ Field a.place ∷ []
   two_field a = two_is t ∙ a.items_are
 
-  -- the listed account that is chosen stands there
+  -- the listed account that is chosen is there
   record IsStanding (a : AccountAt fields (element_two t)) (X : List (List ℕ)) : Type 0 where
     listed_at : ℕ
     listed : slice_get (field_accounts a.field.class) listed_at ≡ Some X
@@ -192,7 +192,7 @@ module _ (fields : List NamedField) (t : Template) where
       let (value, there, place, account, listed, is) = accounts_are_put_in fields values number n 2 a.place t a.field admits (two_field a) a.there a.account in
       record { listed_at = place; listed = listed.listed ∙ ap (λ (x : List (List ℕ)). Some x) (sym is) }
 
-  -- the account that is set stands there
+  -- the account that is set is there
   set_stands : (a : AccountAt fields (element_two t)) (k : ℕ) (account : List (List ℕ))
       → slice_get (field_accounts a.field.class) k ≡ Some account → (number n : ℕ)
       → Items (with_value (shortest_choice fields) a.place a.field (account_text account)) number n ≡ account
@@ -216,7 +216,7 @@ module _ (fields : List NamedField) (t : Template) where
       is ∙ same_accounts stands account items
 
   module _ (orders : List OrderRow) (closed : IsClosedTemplate fields orders t) (r : Rule) where
-    -- where the rule is asked for no account, and asks what stands there, its literals do
+    -- where the rule is asked for no account, and asks what is there, its literals are
     record IsPlain (X : List (List ℕ)) : Type 0 where
       account : asks_account r ≡ true → names_account (form_of orders t.kind t.version) ≡ true
           → X ≡ literals t
@@ -302,7 +302,7 @@ module _ (fields : List NamedField) (granted : Granted) (f : MessageFacts) (r : 
     breaks = λ number n. subst With (sym (set_stands fields t a k account at number n)) b;
   }
 
-  -- where the account that is set stands
+  -- where the account that is set is
   set_at : (s : SetAccount) → IsSetFor granted fields f r t count s → AccountAt fields (element_two t)
   set_at s w =
       let b = w.breaking in

@@ -1,4 +1,4 @@
--- The two rules that hang on a message's number and size, P2 and P3: what messages of a step with its greatest figures break.
+-- P2 and P3, which depend on a message's number and size: what messages of a step with its greatest figures break.
 use Rattle.std.proofs.Common.{Some, ℕ, ◌≤◌, ◌≡◌, ◌⊎◌, List, refl, arith, inl, inr}
 use Rattle.std.specs.Prelude.{Any}
 use Rattle.fints_syntax_segments.specs.declared.item.OwnedSegment.{OwnedSegment}

@@ -22,7 +22,7 @@ before_new n place r f (inl less) = inl less
 before_new n place r f (inr (same, inl less)) = inr (same, inl less)
 before_new n place r f (inr (same, inr (rule, less))) = inr (same, inr (rule_once f.rule r rule, less))
 
--- one more at the end, behind all the others
+-- one more at the end, after all the others
 pair_push : (fs : List Finding) (g : Finding) → AllPairs IsBefore fs
     → ((f : Finding) → Contains fs f → IsBefore f g) → AllPairs IsBefore (fs ++ g ∷ [])
 pair_push fs g pairs each i j d less lt =
@@ -123,7 +123,7 @@ module _ (granted : Granted) (script : ScriptValue) where
     in_order = a.in_order;
   }
 
-  -- each real finding of the rule stands within the places
+  -- each real finding of the rule is within the places
   pub found_rule : (n r places : ℕ) (findings : List Finding)
       → ((f : Finding) → f.step ≡ n → IsReal granted script f → f.segment < places)
       → AreFoundTo granted script n r places findings → AreFoundTo granted script n (r + 1) 0 findings
@@ -195,7 +195,7 @@ module _ (granted : Granted) (script : ScriptValue) where
       early f real (inr (same, inl less)) = let low = (number_within f.rule).0 in omega (arith, low, less)
       early f real (inr (same, inr (rule, less))) = omega (arith, less)
 
-  -- behind the last step
+  -- after the last step
   pub found_all : (count : ℕ) (findings : List Finding)
       → ((f : Finding) → IsReal granted script f → f.step ≤ count)
       → AreFoundTo granted script (count + 1) 1 0 findings → AreFindings granted script findings

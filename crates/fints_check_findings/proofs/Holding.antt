@@ -1,4 +1,4 @@
--- The pass that notes beside each step a step of which it leaves an order unreleased.
+-- The pass that notes beside each step a step whose order it leaves unreleased.
 use Rattle.std.proofs.Common.{ℕ, zero, suc, ◌+◌, ◌-◌, ◌≤◌, ◌≡◌, Bool, true, false, Option, Some, None, List, [], ◌∷◌, ◌++◌, cond, length, refl, ap, sym, subst, ◌∙◌, arith, inl, inr}
 use Rattle.std.specs.Prelude.{◌↔◌, IsTrue, is_some}
 use Rattle.std.proofs.lemmas.Bool.{cases_lt}
@@ -167,18 +167,18 @@ target_once t s k step (targets.Step n) a b = sym b ∙ a
 target_once t s k step targets.Again a b = b.0 ∙ sym a.0
 target_once t s k step targets.Stop a b = absurd a
 
--- one step alone
+-- only one step
 pub follows_once : (steps : List StepValue) (t b s k : ℕ) (step : StepValue) → IsUnreleasedAt steps t step b s
     → IsUnreleasedAt steps t step b k → k ≡ s
 follows_once steps t b s k step a c = target_once t s k step (target_of step.branches step.otherwise b) a.carried.goes c.carried.goes
 
--- ---- what the table tells
+-- ---- what the table says
 
 module _ (granted : Granted) (script : ScriptValue) (numbers holders : List (Option ℕ))
     (greatest : AreGreatest script.steps numbers) (are : AreHolders script.steps numbers holders)
     (left : (s : ℕ) → IsReal granted script (release_of s) → (v : Visit) × Arrives script.steps v × IsUnreleased script v.step s)
     (same : (t s : ℕ) → IsHeld script.steps t s ↔ IsUnreleased script t s) where
-  -- beside a step at which P11 is real stands one that runs send
+  -- a step at which P11 is real has one beside it that runs send
   pub has_holder : (s : ℕ) → IsReal granted script (release_of s) → (t : ℕ) × Has holders s t
   has_holder s real =
       let l = left s real in

@@ -151,7 +151,7 @@ module _ (granted : Granted) (script : ScriptValue) (sound : IsSound script) whe
       let last = w.last in
       messages_are_read script (v.step - 1) step v.number values sound (numbered_from script.steps v.step step at) w.first (omega arith) admits
 
-  -- behind the message of a visit, and an answer with 0030, that of another is shown to leave an order unreleased
+  -- after the message of a visit, and an answer with 0030, that of another is shown to leave an order unreleased
   shows_behind : (values : List NamedValue) (answers : List (List ℕ)) (v w : Visit) (codes : List ℕ)
       (step next : StepValue) → numbered script.steps v.step ≡ Some step
       → numbered script.steps w.step ≡ Some next → Admits script.fields values → Arrives script.steps v

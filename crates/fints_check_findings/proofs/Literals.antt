@@ -1,4 +1,4 @@
--- Literals: what of element 2 stands in every message of a step, and which HKTAN and which HKEND do.
+-- Literals: what of element 2 is in every message of a step, and which HKTAN and which HKEND are.
 use Rattle.std.proofs.Common.{ℕ, suc, ◌+◌, ◌≡◌, Bool, true, false, List, [], ◌∷◌, map, get_or, Some, refl, ap, ◌∙◌}
 use Rattle.std.specs.Prelude.{◌&&◌, ◌||◌}
 use Rattle.std.specs.List.{list_all, list_any, slice_get}
@@ -47,7 +47,7 @@ process_case : (a b c : Bool) → (a ≡ true → b ≡ c) → (a && b) ≡ (a &
 process_case true b c h = h refl
 process_case false b c h = refl
 
--- the literal process of an HKTAN stands in its segment
+-- the literal process of an HKTAN is in its segment
 process_is : ElementsAreFilled
     → (process : List ℕ) (F : FillingValue) (n : ℕ) (t : Template) (fields : List NamedField)
     (orders : List OrderRow)

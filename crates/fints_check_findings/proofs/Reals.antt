@@ -44,7 +44,7 @@ pub record Comes (script : ScriptValue) (step : StepValue) (number : ℕ) (m : S
   pub bytes : m.bytes ≡ message_bytes script step m.number values
   pub read : IsMessage (message_bytes script step m.number values) (message_view script step m.number values)
 
--- what is broken by itself is broken behind anything
+-- what is broken by itself is broken after anything
 pub itself : (granted : Granted) (before : Before) (m : Sent) (r : Rule) (place : ℕ)
     → BytesBreak granted m.bytes r place → BreaksBehind granted before m r place
 itself granted at_first m r place b = b

@@ -69,7 +69,7 @@ module _ (s : AtStepValue) (figures : Reached) (unreleased : Bool) (is : IsSentS
         ]
   ]
 
-  -- each stands at a place of the step's message
+  -- each is at a place of the step's message
   pub few_places : (f : Finding) → f.step ≡ s.n → IsReal s.granted s.script f
       → f.segment < 2 + length s.step.signers + length s.step.templates
   few_places f here real =

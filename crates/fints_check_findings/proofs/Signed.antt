@@ -65,7 +65,7 @@ module _ (script : ScriptValue) (values : List NamedValue) (number : ℕ) (sound
   abbrev F : FillingValue
   F = filling_of script.fields values number
 
-  -- an item of an element where no account field stands: it is one item
+  -- an item of an element with no account field: it is one item
   record Stands (t : TemplateItem) : Type 0 where
     item : OwnedItem
     items_are : filled_item F t ≡ item ∷ []

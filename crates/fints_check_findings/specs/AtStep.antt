@@ -1,4 +1,4 @@
--- A step as the rules are asked of it, and one that runs send. Private contracts and models alone cite these words.
+-- A step as the rules are asked of it, and one that runs send. Only private contracts and models cite these words.
 use Rattle.std.specs.Prelude.{ℕ, ◌≡◌, ◌⊎◌, ◌↔◌, Bool, List, Some, slice_get, IsTrue}
 use Rattle.fints_script_cases.specs.declared.values.NamedValue.{NamedValue}
 use Rattle.fints_rules_permissions.specs.Permits.{Granted}
@@ -24,14 +24,14 @@ use Rattle.fints_check_findings.specs.StepFacts.{AreStepFacts}
 use Rattle.fints_check_findings.specs.declared.finding.Reached.{Reached}
 use Rattle.fints_check_findings.specs.declared.step_facts.StepFacts.{StepFacts}
 
--- under what it is asked, of which script, its number and itself
+-- what the rules are asked under, the step's script, its number and the step itself
 pub record AtStepValue : Type 0 where
   pub granted : Granted
   pub script : ScriptValue
   pub n : ℕ
   pub step : StepValue
 
--- the script's step of that number, no account and process of which is left open, and its facts
+-- the script's step of that number, with no account or process left open, and its facts
 pub record IsAtStep (granted : Granted) (script : ScriptValue) (n : ℕ) (step : StepValue) (facts : StepFacts)
     : Type 0 where
   pub at : numbered script.steps n ≡ Some step
@@ -64,7 +64,7 @@ BreaksAsSent s r =
     FiguresBreak s.at.granted.rows.bank (reached_figures s.figures) r ⊎ ((r ≡ Release) × IsTrue s.unreleased)
 
 -- the values are admitted, and what the step's message holds with them breaks the rule at the place, at every
--- number; they are the extreme ones of which the rule is asked, or, for P8 and P9, have the first account
+-- number; they are the extreme ones that the rule is asked of, or, for P8 and P9, have the first account
 -- that does
 pub record AreChosenAt (s : AtStepValue) (r : Rule) (place : ℕ) (values : List NamedValue) : Type 0 where
   pub admitted : Admits s.script.fields values

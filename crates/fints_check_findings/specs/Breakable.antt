@@ -1,4 +1,4 @@
--- What the message of a step can break by what it holds. Words of private contracts and proofs alone stand last, under a heading.
+-- What the message of a step can break by what it holds. Words only for private contracts and proofs come last, under a heading.
 use Rattle.std.specs.Prelude.{ℕ, List}
 use Rattle.fints_script_cases.specs.declared.values.NamedValue.{NamedValue}
 use Rattle.fints_rules.specs.Breaks.{BreaksByContent}
@@ -19,7 +19,7 @@ NeverBreaks granted script step r =
 abbrev pub IsCleanStep : Granted → ScriptValue → StepValue → Type 0
 IsCleanStep granted script step = (r : Rule) → NeverBreaks granted script step r
 
--- ---- of private contracts and proofs alone
+-- ---- of private contracts and proofs only
 
 -- for some admitted values what the step's message holds breaks the rule at the place, at every number
 pub record CanBreak (granted : Granted) (script : ScriptValue) (step : StepValue) (r : Rule) (place : ℕ)

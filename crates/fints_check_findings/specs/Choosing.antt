@@ -1,5 +1,5 @@
 -- Which values a case has: the worst ones for a rule that a TAN breaks, and else the least ones, with at most
--- one account set. Private contracts alone cite these words.
+-- one account set. Only private contracts cite these words.
 use Rattle.std.specs.Prelude.{ℕ, ◌≡◌, ◌<◌, ◌⊎◌, ◌+◌, Bool, true, false, List, [], ◌∷◌, length, Option, Some, None, Any, MatchOption}
 use Rattle.std.specs.List.{slice_get}
 use Rattle.fints_script_fields.specs.Fields.{field_accounts, field_shortest}
@@ -70,7 +70,7 @@ pub record HasBreaking (granted : Granted) (f : MessageFacts) (r : Rule) (t : Te
   pub first : (k : ℕ) (earlier : List (List ℕ)) → k < place → slice_get accounts k ≡ Some earlier
       → SegmentBreaks granted f r (template_facts t count earlier) → ⊥
 
--- at this place stands the first account with which the template's segment breaks the rule; none is told only where no account does
+-- the account at this place is the first with which the template's segment breaks the rule; it is absent only where no account does
 abbrev pub IsBreakingPlace : Granted → MessageFacts → Rule → Template → ℕ → List (List (List ℕ)) → Option ℕ
     → Type 0
 IsBreakingPlace granted f r t count accounts place =

@@ -1,5 +1,5 @@
--- What may stand in element 2 of a template's segment, and what the rules ask of it. Private contracts and,
--- by Releases, the invariant of Report alone cite these words.
+-- What element 2 of a template's segment may hold, and what the rules ask of it. Only private contracts and,
+-- by Releases, the invariant of Report cite these words.
 use Rattle.std.specs.Prelude.{ℕ, Bool, true, false, ◌&&◌, if◌then◌else◌, List, [], ◌∷◌, map, get_or, slice_get, Option, Some, None}
 use Rattle.std.specs.Str.{bytes_eq}
 use Rattle.fints_syntax_segments.specs.Segment.{item_value}
@@ -61,7 +61,7 @@ abbrev pub six_of : List (List ℕ) → List (List ℕ)
 six_of xs =
     get_or xs 0 [] ∷ get_or xs 1 [] ∷ get_or xs 2 [] ∷ get_or xs 3 [] ∷ get_or xs 4 [] ∷ get_or xs 5 [] ∷ []
 
--- the facts of the template's segment with these items in element 2, where so many segments have its kind
+-- the facts of the template's segment with these items in element 2, where `count` segments have its kind
 abbrev pub template_facts : Template → ℕ → List (List ℕ) → SegmentFactsValue
 template_facts t count items =
     record { kind = t.kind; version = t.version; items = six_of items; count = count }

@@ -18,7 +18,7 @@ use Rattle.fints_check_findings.specs.Figures.{IsSentOf}
 use Rattle.fints_check_findings.specs.Releases.{IsUnreleased}
 use Rattle.fints_check_findings.specs.declared.finding.Finding.{Finding}
 
--- as bytes, the message breaks the rule at the place, by itself or behind what it comes after
+-- as bytes, the message breaks the rule at the place, by itself or given what it comes after
 abbrev pub BreaksBehind : Granted → Before → Sent → Rule → ℕ → Type 0
 BreaksBehind granted at_first m r place = BytesBreak granted m.bytes r place
 BreaksBehind granted (behind b codes) m r place = BytesBreakAfter granted b.bytes codes m.bytes r place
@@ -29,7 +29,7 @@ IsPermittedBehind granted at_first m = Permitted granted m.bytes
 IsPermittedBehind granted (behind b codes) m = PermittedAfter granted b.bytes codes m.bytes
 
 -- the values are admitted, and with them the run of these answers ends with a message of the finding's step
--- that, as bytes, breaks the finding's rule at its segment, by itself or behind the message before it and the
+-- that, as bytes, breaks the finding's rule at its segment, by itself or given the message before it and the
 -- answer between them
 pub record Shows (granted : Granted) (script : ScriptValue) (f : Finding) (values : List NamedValue)
     (answers : List (List ℕ)) : Type 0 where
@@ -57,19 +57,19 @@ pub record AreFindings (granted : Granted) (script : ScriptValue) (findings : Li
   pub exactly : (f : Finding) → Contains findings f ↔ IsReal granted script f
   pub in_order : AllPairs IsBefore findings
 
--- each message of each run, for all admitted values and all answers, is permitted, by itself and behind the message before it and the answer between them
+-- each message of each run, for all admitted values and all answers, is permitted, by itself and given the message before it and the answer between them
 abbrev pub EachIsPermitted : Granted → ScriptValue → Type 0
 EachIsPermitted granted script =
     (values : List NamedValue) (answers : List (List ℕ)) (sent : List Sent) → Admits script.fields values
     → AllByRecursion IsAnswer answers → Run script values answers sent
     → EachAfter (IsPermittedBehind granted) at_first sent answers
 
--- what the messages of a step hold of which some run sends one breaks no rule, at any number
+-- where some run sends a message of a step, what the step's messages hold breaks no rule, at any number
 abbrev pub SentStepsAreClean : Granted → ScriptValue → Type 0
 SentStepsAreClean granted script =
     (n : ℕ) (step : StepValue) (m : Sent) → numbered script.steps n ≡ Some step → IsSentOf script n m
     → IsCleanStep granted script step
 
--- no step leaves an order unreleased that a step submits of which some run sends a message
+-- where some run sends a message of a step, no step leaves an order unreleased that this step submits
 abbrev pub SentStepsAreReleased : ScriptValue → Type 0
 SentStepsAreReleased script = (t s : ℕ) (m : Sent) → IsSentOf script t m → IsUnreleased script t s → ⊥

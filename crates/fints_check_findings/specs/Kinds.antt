@@ -1,4 +1,4 @@
--- What the kinds of a step's templates tell. Private contracts and, by Releases, the invariant of Report alone cite these words.
+-- What the kinds of a step's templates show. Only private contracts and, by Releases, the invariant of Report cite these words.
 use Rattle.std.specs.Prelude.{codes, ◌≡◌, ◌≤◌, ℕ, Bool, not, ◌&&◌, List, length, map, filter, count_by, slice_get, slice_index, Some}
 use Rattle.std.specs.List.{list_any}
 use Rattle.std.specs.Str.{bytes_eq}
@@ -14,7 +14,7 @@ has_kind kind t = bytes_eq t.kind kind
 abbrev pub template_kinds : List Template → List (List ℕ)
 template_kinds ts = filter is_plain_order (map (λ (t : Template). t.kind) ts)
 
--- an order other than HKTAN, of a kind that none of those behind it has
+-- an order other than HKTAN, of a kind that none of those after it has
 abbrev pub is_last_of_kind : Template → List Template → Bool
 is_last_of_kind t behind = is_plain_order t.kind && not (list_any (has_kind t.kind) behind)
 

@@ -1,5 +1,5 @@
 -- Which steps leave an order unreleased that another step submits. Steps count from 1; branches too, and the
--- default counts as the last. Words of private contracts, proofs and the invariant of Report alone stand
+-- default counts as the last. Words only for private contracts, proofs and the invariant of Report come
 -- last, under a heading.
 use Rattle.std.specs.Prelude.{codes, ◌≡◌, ◌||◌, ℕ, ◌≤◌, Bool, true, false, List, length, Option, Some}
 use Rattle.std.specs.List.{list_any}
@@ -37,7 +37,7 @@ pub record IsUnreleased (script : ScriptValue) (t s : ℕ) : Type 0 where
   pub follows : CarriesTo from t RELEASE s
   pub leaves : StepLeavesOrder script from to
 
--- step t is the first that some run sends and of which step s leaves an order unreleased
+-- of the steps that some run sends, step t is the first with an order that step s leaves unreleased
 pub record IsFirstLeft (script : ScriptValue) (t s : ℕ) : Type 0 where
   pub unreleased : IsUnreleased script t s
   pub visit : Visit
@@ -45,7 +45,7 @@ pub record IsFirstLeft (script : ScriptValue) (t s : ℕ) : Type 0 where
   pub of : visit.step ≡ t
   pub first : (v : Visit) → Arrives script.steps v → IsUnreleased script v.step s → t ≤ v.step
 
--- the answers lead to a message of step s behind one of that first step, by the first branch that carries 0030 there; the numbers are the greatest of all steps
+-- the answers lead to a message of step s after one of that first step, by the first branch that carries 0030 there; the numbers are the greatest of all steps
 pub record LeadsFromFirst (script : ScriptValue) (s : ℕ) (answers : List (List ℕ)) : Type 0 where
   pub before : ℕ
   pub first : IsFirstLeft script before s
@@ -53,13 +53,13 @@ pub record LeadsFromFirst (script : ScriptValue) (s : ℕ) (answers : List (List
   pub greatest : AreGreatest script.steps numbers
   pub leads : LeadsByFirstBranch script.steps numbers before RELEASE s answers
 
--- ---- of private contracts, proofs and the invariant of Report alone
+-- ---- of private contracts, proofs and the invariant of Report only
 
--- an HKTAN of process 4 stands among the step's templates
+-- an HKTAN of process 4 is among the step's templates
 abbrev pub submits : StepValue → Bool
 submits step = list_any (has_process (codes "4")) step.templates
 
--- an HKTAN of process 2, or an HKEND, does
+-- an HKTAN of process 2, or an HKEND, is
 abbrev pub releases : StepValue → Bool
 releases step = list_any (has_process (codes "2")) step.templates || list_any is_end step.templates
 
@@ -78,13 +78,13 @@ pub record IsHeld (steps : List StepValue) (t s : ℕ) : Type 0 where
   pub branch : ℕ
   pub is : IsUnreleasedAt steps t step branch s
 
--- beside each of the first steps stands whether it submits an order
+-- the mark of each of the first steps is whether it submits an order
 pub record AreSubmittingTo (steps : List StepValue) (count : ℕ) (marks : List Bool) : Type 0 where
   pub long : length marks ≡ count
   pub each : (t : ℕ) (step : StepValue) → t ≤ count → numbered steps t ≡ Some step
       → numbered marks t ≡ Some (submits step)
 
--- beside each step stands the first step that has a number and an order that it leaves unreleased, if there is one
+-- for each step, the first step that has a number and an order that it leaves unreleased, if there is one
 pub record AreHolders (steps : List StepValue) (numbers holders : List (Option ℕ)) : Type 0 where
   pub long : length holders ≡ length steps
   pub each : (s t : ℕ) → Has holders s t → ((number : ℕ) × Has numbers t number) × IsHeld steps t s

@@ -1,4 +1,4 @@
--- What a report holds, and what is told of its findings.
+-- What a report holds, and what is said of its findings.
 use Rattle.std.specs.Prelude.{◌≡◌, ℕ, Option, Some, List, slice_get}
 use Rattle.fints_script_cases.specs.declared.values.NamedValue.{NamedValue}
 use Rattle.fints_rules_permissions.specs.Permits.{Granted}
@@ -32,7 +32,7 @@ pub record LeadsToGreatest (steps : List StepValue) (figures : List (Option Reac
   pub times : ℕ
   pub route : RouteTo steps answers (record { step = n; number = reached.number; times = times })
 
--- the answers lead to the greatest number of the finding's step; for P11 to a message of it behind one of the first step whose order it leaves unreleased
+-- the answers lead to the greatest number of the finding's step; for P11 to a message of it after one of the first step whose order it leaves unreleased
 pub record LeadsFor (script : ScriptValue) (figures : List (Option Reached)) (f : Finding)
     (answers : List (List ℕ)) : Type 0 where
   pub longest : (f.rule ≡ Release → ⊥) → LeadsToGreatest script.steps figures f.step answers

@@ -1,4 +1,4 @@
--- What a search for findings tells on its way, and how far it has come. Private contracts alone cite these words.
+-- What a search for findings returns on its way, and its progress. Only private contracts cite these words.
 use Rattle.std.specs.Prelude.{ℕ, ◌≡◌, ◌≤◌, ◌<◌, ◌⊎◌, ◌↔◌, List, length, AllPairs, Contains, Some, slice_get}
 use Rattle.fints_script_cases.specs.declared.values.NamedValue.{NamedValue}
 use Rattle.fints_rules.specs.Breaks.{Breaks}
@@ -73,7 +73,7 @@ pub record AreCaseValues (granted : Granted) (script : ScriptValue) (f : Finding
   pub greatest : (f.rule ≡ Release → ⊥) → BreaksAtGreatest granted script f values
   pub chosen : AreChosenAtGreatest granted script f values
 
--- the finding stands at this place of a report, counted from 0; it is real, and its step is one of the plan's
+-- the finding is at this place of a report, counted from 0; it is real, and its step is one of the plan's
 pub record IsFindingOf (report : ReportValue) (i : ℕ) (f : Finding) : Type 0 where
   pub at : slice_get report.findings i ≡ Some f
   pub real : IsReal report.granted report.plan.script f

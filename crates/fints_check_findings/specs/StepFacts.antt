@@ -1,4 +1,4 @@
--- The facts of a step's message, as far as the step tells them, and the rules over them. Private contracts alone cite these words.
+-- The facts of a step's message that follow from the step, and the rules over them. Only private contracts cite these words.
 use Rattle.std.specs.Prelude.{codes, ◌≡◌, ◌⊎◌, ◌↔◌, ℕ, ◌+◌, Bool, true, false, List, [], length, slice_get, Option, None, Some, Any, IsTrue}
 use Rattle.std.specs.List.{list_any}
 use Rattle.std.specs.Set.{distinct_count}
@@ -57,7 +57,7 @@ pub record AreFactsOf (granted : Granted) (script : ScriptValue) (facts : List M
   pub long : length facts ≡ length script.steps
   pub each : (n : ℕ) (f : MessageFacts) → numbered facts n ≡ Some f → AreFactsAt granted script n f
 
--- those of which a rule is asked
+-- those that a rule is asked of
 abbrev pub message_for : StepFacts → Bool → MessageFacts
 message_for f true = f.most
 message_for f false = f.least
@@ -76,7 +76,7 @@ abbrev pub IsTemplateChoice : Granted → List NamedField → MessageFacts → R
 IsTemplateChoice granted fields f r t count choice =
     TemplateBreaks granted fields f r t count → TemplateBreaksWith granted fields f r t count choice
 
--- the segment of this number, behind HNHBK and the signers' HNSHK, breaks it
+-- the segment of this number, after HNHBK and the signers' HNSHK, breaks it
 pub record TemplateBreaksAt (granted : Granted) (fields : List NamedField) (step : StepValue)
     (f : MessageFacts) (r : Rule) (number : ℕ) : Type 0 where
   pub i : ℕ

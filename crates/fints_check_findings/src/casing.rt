@@ -24,7 +24,7 @@ pub struct FindingAt<'a> {
 }
 
 /// The values of a real finding's case: the worst ones for P3 and P12, and else the least ones, where
-/// P8 and P9 are asked of listed accounts with the first of them that breaks. P11 hangs on no values. The
+/// P8 and P9 are asked of listed accounts with the first of them that breaks. P11 depends on no values. The
 /// facts are those of the step's message, with a TAN where no choice leaves it empty.
 pub fn case_values(alloc: Global, at: FindingAt<'_>, facts: MessageFacts) -> Result<Values, Memory>
     requires { AreFactsAt at.permissions.now at.plan.now.script at.finding.step facts }

@@ -1,5 +1,5 @@
-//! The values of a case: the worst ones for a rule that a TAN breaks, and else the least ones, of
-//! which at most one is another listed account.
+//! The values of a case: the worst ones for a rule that a TAN breaks, and else the least ones, at
+//! most one of them another listed account.
 ghost use Rattle.std.specs.Prelude.{◌≡◌, ◌≢◌, ◌∷◌, ◌++◌, [], ℕ, MatchOption, IfOk, OnOk};
 ghost use Rattle.std.specs.List.{slice_get};
 ghost use Rattle.fints_script_templates.specs.declared.template.TemplateItem.TheVariants as template_item;

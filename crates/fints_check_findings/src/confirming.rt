@@ -54,8 +54,8 @@ fn bytes_break(
     }
 }
 
-// Whether they do behind another message and the answer to it. Both are messages of a run, so that
-// nothing but want of memory keeps them from being judged.
+// Whether they do after another message and the answer to it. Both are messages of a run, so that
+// nothing but running out of memory keeps them from being judged.
 fn bytes_break_after(
     alloc: Global,
     permissions: &Permissions<'_>,
@@ -74,7 +74,7 @@ fn bytes_break_after(
     }
 }
 
-// Whether the last of what is sent breaks the finding's rule at its segment, by itself or behind the
+// Whether the last of what is sent breaks the finding's rule at its segment, by itself or given the
 // message before it and the answer between them.
 fn last_breaks(
     alloc: Global,
@@ -151,7 +151,7 @@ fn have_codes(answers: &[Answer]) -> bool
 }
 
 /// Whether the values of the case are admitted, and the last message that the run of the case sends
-/// is of the finding's step and breaks its rule at its segment, by itself or behind the message before
+/// is of the finding's step and breaks its rule at its segment, by itself or given the message before
 /// it and the answer between them. Then the finding is real, whoever wrote the case.
 pub fn confirm(
     alloc: Global,

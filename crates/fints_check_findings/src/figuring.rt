@@ -1,4 +1,4 @@
-//! The greatest figures of the steps of a plan, which hang on no bank.
+//! The greatest figures of the steps of a plan, which depend on no bank.
 ghost use Rattle.std.specs.Prelude.{IfOk};
 ghost use Rattle.fints_check_findings.specs.Figures.{AreFigures};
 

@@ -23,7 +23,7 @@ fn some_has_kind(templates: &[Template], kind: Kind) -> bool
     templates.iter().any(|template| has_kind(template, kind))
 }
 
-// Whether it is an order other than HKTAN, and none of those behind it has its kind.
+// Whether it is an order other than HKTAN, and none of those after it has its kind.
 fn is_last_of_kind(template: &Template, behind: &[Template]) -> bool
     ensures { result ≡ is_last_of_kind template.now behind.now }
 {

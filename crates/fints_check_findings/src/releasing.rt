@@ -1,4 +1,4 @@
-//! The release rule: which steps leave an order unreleased, and of which step.
+//! The release rule: which steps leave an order unreleased, and which step's order.
 ghost use Rattle.std.specs.Prelude.{◌≡◌, ◌↔◌, ◌<◌, ◌≤◌, ◌+◌, ℕ, length, Some, None, cond, IfOk, IsTrue, MatchOption};
 ghost use Rattle.fints_check_reach.specs.Following.{AreBehind};
 ghost use Rattle.fints_check_reach.specs.Numbers.{Has};
@@ -38,7 +38,7 @@ fn releases(step: &Step) -> bool
     some_has_process(step.templates(), b"2") || some_ends(step.templates())
 }
 
-// The step that a branch of step t leads to behind 0030, where it releases nothing. What costs most
+// The step that a branch of step t leads to after 0030, where it releases nothing. What costs most
 // is asked last.
 fn unreleased_at(plan: &Plan<'_>, t: usize, at: StepBranch<'_>) -> Option<usize>
     requires { numbered plan.now.script.steps t ≡ Some at.step.now }
@@ -82,8 +82,8 @@ fn holder(step: &Step, kept: Option<u16>) -> Option<u16>
     if releases(step) { None } else { kept }
 }
 
-/// Beside each step the first step that some run sends and of which it leaves an order unreleased, if
-/// there is one: the one that the pass has kept behind it, unless it releases something.
+/// For each step the first step that some run sends and whose order it leaves unreleased, if
+/// there is one: the one that the pass has kept for it, unless it releases something.
 pub fn holders(
     alloc: Global,
     plan: &Plan<'_>,

@@ -174,7 +174,7 @@ impl<'a> Report<'a> {
         way_behind(alloc, way, release_code(), s)
     }
 
-    /// The step of which a finding of P11 leaves an order unreleased, the first that runs send: its case
+    /// The step whose order a finding of P11 leaves unreleased, the first that runs send: its case
     /// sends it last but one. None for another rule. Findings count from 0.
     pub fn step_left(&self, i: usize) -> Option<u16>
         requires { i < length self.now.findings }

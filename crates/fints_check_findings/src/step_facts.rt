@@ -17,7 +17,7 @@ pub fn wants_tan(rule: Rule) -> bool
     matches!(rule, Rule::Procedure)
 }
 
-/// The facts of a step's message, as far as the step tells them.
+/// The facts of a step's message that follow from the step.
 #[derive(Drop)]
 pub struct StepFacts {
     /// Those of the whole message, with a TAN where no choice leaves it empty.
@@ -29,7 +29,7 @@ pub struct StepFacts {
 }
 
 impl StepFacts {
-    /// Those of the whole message of which the rule is asked.
+    /// Those of the whole message that the rule is asked of.
     pub fn message(&self, rule: Rule) -> &MessageFacts
         ensures { result.now ≡ message_for self.now (wants_tan rule) }
     {
@@ -81,7 +81,7 @@ fn with_most_tans(
     most
 }
 
-/// The facts of a step's message of which the rule is asked, from those with a TAN where no choice leaves
+/// The facts of a step's message that the rule is asked of, from those with a TAN where no choice leaves
 /// it empty.
 pub fn facts_asked(
     permissions: &Permissions<'_>,

@@ -1,4 +1,4 @@
-//! TANs: which signers always have one, which may have one, and which HKTAN stand in a step.
+//! TANs: which signers always have one, which may have one, and which HKTAN a step has.
 ghost use Rattle.std.specs.Prelude.{◌≡◌, ◌≢◌, ◌↔◌, IsTrue, [], option_map, slice_get};
 ghost use Rattle.std.specs.List.{list_any};
 ghost use Rattle.fints_syntax_segments.specs.Segment.{item_value};
@@ -121,7 +121,7 @@ fn has_process(template: &Template, process: &[u8]) -> bool
     is_tan_order(template.kind) && literal_at(element_two(template), 0) == process
 }
 
-/// Whether an HKTAN of the process stands among the segments.
+/// Whether an HKTAN of the process is among the segments.
 pub fn some_has_process(templates: &[Template], process: &[u8]) -> bool
     ensures { result ≡ list_any (has_process process.now) templates.now }
 {

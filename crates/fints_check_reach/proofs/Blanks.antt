@@ -14,7 +14,7 @@ pub none_in_nil : (n e : ℕ) → Has [] n e → ⊥
 none_in_nil zero e h = cc
 none_in_nil (suc k) e h = cc
 
--- with one number put first, it has that alone
+-- with one number put first, it has only that
 pub first_there : (count m : ℕ) → 0 < count → Has (set (replicate count None) 0 (Some m)) 1 m
 first_there zero m h = absurd (omega (arith, h))
 first_there (suc count) m h = refl

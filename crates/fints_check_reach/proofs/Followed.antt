@@ -14,7 +14,7 @@ use Rattle.fints_script_cases.proofs.LawLemmas.{carrying_leads, one_branch_fires
 use Rattle.fints_wire.proofs.RunLawLemmas.{runs_by_steps}
 use Rattle.fints_check_reach.specs.Following.{CarriesTo, GoesTo, IsFollowed, LeadsToward, StepsFollow}
 
--- behind a message of step t, the first in a row where the target is the same step, the target has one of step s sent next
+-- after a message of step t, the first in a row where the target is the same step, the target has one of step s sent next
 goes_on : (step : StepValue) (t s : ℕ) (target : Target) (v : Visit) → v.step ≡ t
     → (target ≡ Again → v.times ≡ 1) → GoesTo step t target s
     → (w : Visit) × Enters step.repeat v target w × (w.step ≡ s)
@@ -60,7 +60,7 @@ toward_visit steps numbers t Stop answers l =
     let e = l.other (λ (clash : Stop ≡ Again). cc) in
     (record { step = t; number = e.number; times = e.times }, e.route, refl, λ (clash : Stop ≡ Again). cc)
 
--- an answer that fires a branch to step s behind a message of step t has one sent
+-- an answer that fires a branch to step s after a message of step t has one sent
 pub branch_follows : (steps : List StepValue) (t code s branch : ℕ) (step : StepValue) (v : Visit)
     (codes : List ℕ) → numbered steps t ≡ Some step → v.step ≡ t
     → (target_of step.branches step.otherwise branch ≡ Again → v.times ≡ 1)

@@ -94,7 +94,7 @@ so_far_all step old new before after m source ways s = record {
 }
 
 module _ (old before : List (Option ℕ)) (to m source : ℕ) (low : 1 ≤ to) (high : to ≤ length old) (wide : length before ≡ length old) where
-  -- a number as great stood there
+  -- a number as great was there
   pub kept_as_great : (e : ℕ) → Has old to e → m ≤ e → IsRaised old old before before to m source
   kept_as_great e has least =
       record {
@@ -105,7 +105,7 @@ module _ (old before : List (Option ℕ)) (to m source : ℕ) (low : 1 ≤ to) (
         each = λ n. inl (same_at old before n);
       }
 
-  -- none, or a lower one, stood there
+  -- none, or a lower one, was there
   pub put_greater : ((e : ℕ) → Has old to e → e < m)
       → IsRaised old (set old (to - 1) (Some m)) before (set before (to - 1) (Some source)) to m source
   put_greater less =

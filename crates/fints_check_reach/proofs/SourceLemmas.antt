@@ -15,7 +15,7 @@ one_number numbers n e f h k = same_Some e f (same_Some (Some e) (Some f) (sym h
 
 module _ (steps : List StepValue) (entries sources figures : List (Option ℕ)) (script : IsScript steps)
     (s : Pass steps entries sources figures (length steps)) where
-  -- an answer leads on, so the step that it leads to stands later
+  -- an answer leads on, so the step that it leads to comes later
   come_from : (n t : ℕ) → Has sources n t → ComesFrom steps figures n t
   come_from n t h =
       let from = s.froms n t h in

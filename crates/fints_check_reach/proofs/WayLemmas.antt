@@ -49,7 +49,7 @@ back_has steps numbers sources are n (x ∷ xs) c number back has =
     let from = are.each n back.1.0 back.1.1 in
     back_has steps numbers sources are back.1.0 xs c from.number back.1.2 from.has
 
--- a source has a way as well, and stands before
+-- a source has a way as well, and comes before
 pub source_way : (sources : List (Option ℕ)) (n s : ℕ) → HasWay sources n → Has sources n s → HasWay sources s
 source_way sources n s w has =
     let from = w.are.each n s has in

@@ -12,7 +12,7 @@ use Rattle.fints_wire.specs.declared.dialogue.Visit.{Visit}
 use Rattle.fints_check_reach.specs.Numbers.{Has}
 use Rattle.fints_check_reach.specs.Ways.{EntersTo, LeadsTo}
 
--- behind a message of step t this target has one of step s sent next: it is step s, or the same step, of which more than one message may be sent in a row
+-- after a message of step t this target has one of step s sent next: it is step s, or the same step, if more than one message of it may be sent in a row
 abbrev pub GoesTo : StepValue → ℕ → Target → ℕ → Type 0
 GoesTo step t (targets.Step to) s = to ≡ s
 GoesTo step t targets.Again s = (s ≡ t) × (2 ≤ step.repeat)
@@ -36,7 +36,7 @@ pub record StepsFollow (steps : List StepValue) (t code s : ℕ) (from : Visit) 
   pub follows : Follows steps from codes to
   pub next : to.step ≡ s
 
--- some run sends a message of step s behind one of step t and an answer with the code
+-- some run sends a message of step s after one of step t and an answer with the code
 pub record IsFollowed (steps : List StepValue) (t code s : ℕ) : Type 0 where
   pub from : Visit
   pub codes : List ℕ
@@ -44,7 +44,7 @@ pub record IsFollowed (steps : List StepValue) (t code s : ℕ) : Type 0 where
   pub arrives : Arrives steps from
   pub are : StepsFollow steps t code s from codes to
 
--- the answers, all of them used, lead to a message of step t, and the last of them, which has the code, to one of step s behind it
+-- the answers, all of them used, lead to a message of step t, and the last of them, which has the code, to one of step s after it
 pub record LeadsBehind (steps : List StepValue) (t code s : ℕ) (answers : List (List ℕ)) : Type 0 where
   pub way : List (List ℕ)
   pub from : Visit

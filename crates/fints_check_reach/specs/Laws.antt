@@ -46,7 +46,7 @@ abbrev pub ReachedAreLookedAt : Type 0
 ReachedAreLookedAt =
     (steps : List StepValue) (reached : List Bool) → reached_visits steps reached ≤ looked_at steps reached
 
--- a run sends a message of step s behind one of step t and an answer with a code exactly where runs send step
+-- a run sends a message of step s after one of step t and an answer with a code exactly where runs send step
 -- t, and a branch of it that carries the code goes to step s
 abbrev pub FollowedWhereCarried : Type 0
 FollowedWhereCarried =

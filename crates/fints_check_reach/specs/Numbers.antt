@@ -20,7 +20,7 @@ pub record AreGreatest (steps : List StepValue) (numbers : List (Option ℕ)) : 
       → (v : Visit) × Arrives steps v × (v.step ≡ n) × (v.number ≡ number)
   pub most : (v : Visit) → Arrives steps v → IsBounded numbers v
 
--- ---- how much is looked at; beside each step stands whether it is reached
+-- ---- how much is looked at; each step has a flag, whether it is reached
 
 -- the branches of a step, the default among them
 abbrev pub branch_count : StepValue → ℕ

@@ -1,4 +1,4 @@
--- What the pass over the steps does, step by step and branch by branch. Private contracts alone cite these words. Branches count from 0 here.
+-- What the pass over the steps does, step by step and branch by branch. Only private contracts cite these words. Branches count from 0 here.
 use Rattle.std.specs.Prelude.{ℕ, ◌≡◌, ◌↔◌, ◌≤◌, ◌+◌, ◌-◌, ◌⊎◌, Bool, true, Option, Some, List, length, slice_get}
 use Rattle.fints_script_cases.specs.Answers.{IsOpen, target_of}
 use Rattle.fints_script_cases.specs.declared.answers.Target.{Target}
@@ -19,7 +19,7 @@ IsOpenAt step b = IsOpen step.branches (b + 1)
 abbrev pub target_at : StepValue → ℕ → Target
 target_at step b = target_of step.branches step.otherwise (b + 1)
 
--- the flags tell which branches are open
+-- the flags say which branches are open
 abbrev pub AreOpen : StepValue → List Bool → Type 0
 AreOpen step flags = (b : ℕ) → b ≤ length step.branches → (slice_get flags b ≡ Some true) ↔ IsOpenAt step b
 
@@ -28,7 +28,7 @@ pub record IsSameAt (old new before after : List (Option ℕ)) (n : ℕ) : Type 
   pub number : numbered new n ≡ numbered old n
   pub source : numbered after n ≡ numbered before n
 
--- number m was kept for the step of number to, as coming from this source, unless one as great stood there
+-- number m was kept for the step of number to, as coming from this source, unless one as great was there
 pub record IsRaised (old new before after : List (Option ℕ)) (to m source : ℕ) : Type 0 where
   pub long : length new ≡ length old
   pub wide : length after ≡ length before

@@ -11,7 +11,7 @@ pub record EndsRow (step : StepValue) (from number : ℕ) : Type 0 where
   pub repeated : Leads step Again → number ≡ from + (step.repeat - 1)
   pub single : (Leads step Again → ⊥) → number ≡ from
 
--- step n's greatest number comes from step s, which stands before it: some answer leads from s to n, and the
+-- step n's greatest number comes from step s, which comes before it: some answer leads from s to n, and the
 -- row that begins with one more than s's greatest number ends with n's
 pub record ComesFrom (steps : List StepValue) (numbers : List (Option ℕ)) (n s : ℕ) : Type 0 where
   pub before : s < n

@@ -1,4 +1,4 @@
--- What is found on the way to a step, back and forth. Private contracts alone cite these words.
+-- What is found on the way to a step, back and forth. Only private contracts cite these words.
 use Rattle.std.specs.Prelude.{ℕ, ◌≡◌, ◌<◌, ◌≤◌, ◌+◌, Option, List, [], ◌∷◌, length}
 use Rattle.fints_script_cases.specs.declared.answers.Target.{Target}
 use Rattle.fints_script.specs.Steps.{StepValue}
@@ -7,7 +7,7 @@ use Rattle.fints_check_reach.specs.Numbers.{Has}
 use Rattle.fints_check_reach.specs.Sources.{AreSources}
 use Rattle.fints_check_reach.specs.Ways.{EntersTo, LeadsTo}
 
--- the code alone leads from the step to this target
+-- an answer with only the code leads from the step to this target
 pub record IsCodeTo (step : StepValue) (to : Target) (code : ℕ) : Type 0 where
   pub small : code < 10000
   pub leads_there : answered step (code ∷ []) ≡ to
@@ -23,7 +23,7 @@ LeadsOn steps n to old new =
     (number times : ℕ) → RouteTo steps old (record { step = n; number = number; times = times })
     → RouteTo steps new (record { step = to; number = number + 1; times = 1 })
 
--- these are the sources of numbers, of which step n has one
+-- these are the sources of numbers, and step n has a number
 pub record HasWay (sources : List (Option ℕ)) (n : ℕ) : Type 0 where
   pub steps : List StepValue
   pub numbers : List (Option ℕ)
@@ -32,7 +32,7 @@ pub record HasWay (sources : List (Option ℕ)) (n : ℕ) : Type 0 where
   pub has : Has numbers n number
   pub to : n ≤ length steps
 
--- step n, its source, that one's source and so on, as long as they stand after step c; the last of them comes from step c
+-- step n, its source, that one's source and so on, as long as they come after step c; the last of them comes from step c
 abbrev pub IsWayBack : List (Option ℕ) → ℕ → List ℕ → ℕ → Type 0
 IsWayBack sources n [] c = n ≡ c
 IsWayBack sources n (x ∷ xs) c = (n ≡ x) × ((s : ℕ) × Has sources n s × IsWayBack sources s xs c)

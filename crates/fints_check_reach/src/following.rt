@@ -1,4 +1,4 @@
-//! Which step an answer with a code may have sent next behind a step's message, and answers that do.
+//! Which step an answer with a code may have sent next after a step's message, and answers that do.
 ghost use Rattle.std.specs.Prelude.{◌≡◌, ◌↔◌, ◌<◌, ◌≤◌, ◌+◌, ◌++◌, ◌∷◌, [], ℕ, length, Some, IsTrue, MatchOption, IfOk, IfSome};
 ghost use Rattle.fints_script_cases.specs.declared.answers.Target.{Target};
 ghost use Rattle.fints_script_cases.specs.Answers.{IsOpen};
@@ -15,7 +15,7 @@ use fints_script::{Answer, Step, Target};
 use fints_syntax::Memory;
 use std::alloc::Global;
 
-/// The step that a target has sent next behind a message of step t.
+/// The step that a target has sent next after a message of step t.
 pub fn next_step(step: &Step, t: usize, target: Target) -> Option<usize>
     ensures { (s : ℕ) → GoesTo step.now t target s ↔ (result ≡ Some s) }
 {
@@ -81,10 +81,10 @@ fn way_toward(alloc: Global, way: WayTo<'_, '_>, target: Target) -> Result<Vec<A
     }
 }
 
-/// Answers after which a run ends with a message of step s behind one of step t, the last of them with
+/// Answers after which a run ends with a message of step s after one of step t, the last of them with
 /// the code; steps count from 1. They take the first branch that carries the code there, and lead to
 /// step t as the longest way does; where it is to follow itself, to the first message of the row that
-/// ends with its greatest number. The last answer is the code alone where that fires the branch, else
+/// ends with its greatest number. The last answer is only the code where that fires the branch, else
 /// the branch's opener and the code.
 pub fn way_behind(
     alloc: Global,

@@ -20,7 +20,7 @@ pub fn visits_are_bounded()
     ensures least { ReachedAreLookedAt }
 {}
 
-/// A run sends a message of step s behind one of step t and an answer with a code exactly where runs
+/// A run sends a message of step s after one of step t and an answer with a code exactly where runs
 /// send step t, and a branch of it that carries the code goes to step s.
 pub fn followed_where_carried()
     ensures { FollowedWhereCarried }

@@ -1,4 +1,4 @@
-//! What the open branches of a step lead to: those that some answer fires. Flags tell which are open,
+//! What the open branches of a step lead to: those that some answer fires. Flags say which are open,
 //! so that no branch is asked again whether an answer fires it.
 ghost use Rattle.std.specs.Prelude.{◌≡◌, ◌↔◌, ◌≤◌, ◌-◌, length, slice_get, Some, true, IsTrue, MatchOption};
 ghost use Rattle.fints_script_cases.specs.declared.answers.Target.{Target};

@@ -1,5 +1,5 @@
 //! The pass over the steps, from the first to the last, that finds their greatest numbers, and for each
-//! step the first marked one that it may be sent behind.
+//! step the first marked one that it may be sent after.
 ghost use Rattle.std.specs.Prelude.{◌≡◌, ◌<◌, ◌≤◌, ◌+◌, ◌*◌, ◌^◌, ℕ, length, map, replicate, is_some, IfOk, IsTrue, IsFalse, Some, None, ◌↔◌};
 ghost use Rattle.fints_script.specs.Numbered.{numbered};
 ghost use Rattle.fints_script_cases.specs.Answers.{IsOpen};
@@ -23,7 +23,7 @@ use std::alloc::Global;
 
 /// The greatest number of each step's messages over all runs, in order of steps, or none for a step
 /// that no run sends; the step that each comes from, counted from 1, or none for the first step and
-/// those that no run sends; the first marked step that each may be sent behind, or none; and how many
+/// those that no run sends; the first marked step that each may be sent after, or none; and how many
 /// steps and branches were looked at for them.
 #[derive(Drop)]
 pub struct Numbers {
@@ -47,7 +47,7 @@ impl Numbers {
 // The most branches of a step, its default counted.
 const MAX_BRANCHES: usize = 21;
 
-// What is asked of the steps behind others: behind which steps, and the code of the answers between.
+// What is asked of the steps after others: after which steps, and the code of the answers between.
 #[derive(Clone, Copy)]
 struct Asked<'a> {
     marks: &'a [bool],
@@ -189,7 +189,7 @@ fn look_at_branches(
 }
 
 // Passes over a step: its greatest number, if it was entered, the targets of its open branches raised
-// above it, and the step kept behind what is asked. The step and each of its branches are counted.
+// above it, and the step kept for what may follow it as asked. The step and each of its branches are counted.
 fn pass_step(
     at: PlanStep<'_, '_>,
     asked: &Asked<'_>,
@@ -238,7 +238,7 @@ fn blank<T: Drop>(alloc: Global, count: usize) -> Result<Vec<Option<T>>, Memory>
 
 /// The greatest numbers, by one pass over the steps in which each open branch of a reached step
 /// raises its target's number. Of several steps that give a step its greatest number, the first in
-/// order is kept as its source; of several marked steps that have it sent behind them after an answer
+/// order is kept as its source; of several marked steps that have it sent next after an answer
 /// with the code, the first is kept as well. Each step is looked at once, each branch of a reached one
 /// once, and each of these is counted where it is looked at.
 pub fn greatest_numbers(

@@ -68,7 +68,7 @@ fn push_onward(
     push_code(alloc, answers, code)
 }
 
-// The steps of the way to step n that stand after step 1, from the last to the first.
+// The steps of the way to step n that come after step 1, from the last to the first.
 fn way_back(alloc: Global, sources: &[Option<u16>], n: u16) -> Result<Vec<u16>, Memory>
     requires { HasWay sources.now n }
     ensures { IfOk result (λ later. IsWayBack sources.now n later.items 1) }

@@ -1,4 +1,4 @@
--- What is told of a text is the first kind of fault that stands in the place.
+-- The fault returned for a text is of the first kind that its place has.
 use Rattle.std.proofs.Common.{◌≡◌, ◌⊎◌, ℕ, zero, suc, ◌+◌, ◌<◌, ◌≤◌, List, [], ◌∷◌, length, take, Option, Some, None, Result, Ok, Err, refl, ap, subst, sym, ◌∙◌, inl, inr, arith}
 use Rattle.std.specs.Prelude.{slice_get}
 use Rattle.std.proofs.lemmas.Option.{none-some, same_Some}
@@ -48,7 +48,7 @@ lifted : (faults others : Kinds) (kind : FaultKind) → ((k : FaultKind) → fau
 lifted faults others kind into back first =
     record { stands = into kind first.stands; first = λ other h s. first.first other h (back other s) }
 
--- ---- where a fault was told
+-- ---- where a fault was returned
 
 pub bind_err : {X Y F : Type 0} (p : Result X F) (of : X → Result Y F) (f : F) → (p >>= of) ≡ Err f
     → (p ≡ Err f) ⊎ ((x : X) × (p ≡ Ok x) × (of x ≡ Err f))
@@ -63,7 +63,7 @@ part_err place (Err kind) f e =
     (ap (λ (g : ScriptFault). Err g.kind) is, ap (λ (g : ScriptFault). g.place) (sym is))
 
 module _ {X : Type 0} (place : ℕ → Place) (part : ℕ → Data → Part X) where
-  -- what stands in a row has a value; this list begins with row k
+  -- what is in a row has a value; this list begins with row k
   abbrev GoodFrom : ℕ → List Data → ℕ → Type 0
   GoodFrom k ds j = (c : Data) → slice_get ds j ≡ Some c → (x : X) × (part (k + j) c ≡ Ok x)
 
@@ -116,7 +116,7 @@ module _ {X : Type 0} (place : ℕ → Place) (part : ℕ → Data → Part X) w
   abbrev pub IsGood : List Data → ℕ → Type 0
   IsGood ds j = (c : Data) → slice_get ds j ≡ Some c → (x : X) × (part j c ≡ Ok x)
 
-  -- the row that the fault stands in; those before it have values
+  -- the row that the fault is in; those before it have values
   pub row_stop : (ds : List Data) (f : ScriptFault) → rows_from place part 0 ds ≡ Err f
       → (i : ℕ) × (d : Data) × (slice_get ds i ≡ Some d) × (part i d ≡ Err f.kind) × (f.place ≡ place (i + 1))
       × ((j : ℕ) → j < i → IsGood ds j)
@@ -198,7 +198,7 @@ module _ (one_field : OneField) where
   -- ---- the places
 
   module _ (text : List ℕ) (f : ScriptFault) where
-    -- the fault stands in this place
+    -- the fault is in this place
     at_place : (place : Place) → f.place ≡ place → IsFirstKind (Stands text place) f.kind
         → IsFirstKind (Stands text f.place) f.kind
     at_place place e first = subst (λ p. IsFirstKind (Stands text p) f.kind) (sym e) first
@@ -281,7 +281,7 @@ module _ (one_field : OneField) where
         back k (inl (inr s)) = absurd (none-some ms (sym s.1.1 ∙ is))
         back k (inr s) = subst (λ (m : Members). InTop m k) (same_Some s.0 ms (sym s.1 ∙ is)) s.2
 
-    -- ---- behind the fields
+    -- ---- after the fields
 
     first_behind : (top : Top) (fields : List NamedField) → HasFields text top fields
         → script_with top fields ≡ Err f

@@ -1,4 +1,4 @@
--- No fault stands in a text that denotes a script, nor in a place before that of the first fault.
+-- No fault is in a text that denotes a script, nor in a place before that of the first fault.
 use Rattle.std.proofs.Common.{◌≡◌, ◌⊎◌, ℕ, ◌+◌, ◌<◌, List, take, Option, Some, Ok, Err, refl, ap, subst, sym, ◌∙◌, inl, inr, arith}
 use Rattle.std.proofs.lemmas.Option.{none-some, same_Some}
 use Rattle.toml.specs.Data.{Data, Members}
@@ -50,7 +50,7 @@ module _ {X : Type 0} (place : ℕ → Place) (part : ℕ → Data → Part X) w
       let value = good r.row r.numbered r.entry r.is_there in
       told_none (part r.row r.entry) (faults r.row r.entry) value.0 (told r.row r.entry) value.1 k r.stands
 
--- no row behind is earlier
+-- no row that comes after is earlier
 not_earlier : (m n a b : ℕ) → n < m → (m < n) ⊎ ((m ≡ n) × (a < b)) → ⊥
 not_earlier m n a b h (inl lt) = omega (arith, h, lt)
 not_earlier m n a b h (inr e) = let same = e.0 in omega (arith, h, same)
@@ -61,7 +61,7 @@ lower m a b (inl lt) = absurd (omega (arith, lt))
 lower m a b (inr e) = e.1
 
 module _ (one_field : OneField) (text : List ℕ) where
-  -- no fault stands in the place
+  -- no fault is in the place
   abbrev IsClear : Place → Type 0
   IsClear place = (k : FaultKind) → Stands text place k → ⊥
 
@@ -223,7 +223,7 @@ module _ (one_field : OneField) (text : List ℕ) where
       }
 
   module _ (f : ScriptFault) where
-    -- none stands before the place of the fault
+    -- none is before the place of the fault
     abbrev NoneBefore : Place → Type 0
     NoneBefore at = (place : Place) → IsEarlier place at → IsClear place
 

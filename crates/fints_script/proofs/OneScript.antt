@@ -57,7 +57,7 @@ module _ (one_field : OneField) where
 
   -- ---- the rows
 
-  -- what stands behind fields without a fault
+  -- what comes after fields without a fault
   abbrev Later : Top → Outcome → Type 0
   Later top r = (fields : List NamedField) × DenoteFields top.fields fields × (script_with top fields ≡ r)
 

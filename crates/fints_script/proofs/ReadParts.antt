@@ -36,7 +36,7 @@ pub failed : {X F : Type 0} (b : Bool) (p : Result X F) (fault : F) (x : X) → 
 failed true p fault x e = absurd cc
 failed false p fault x e = (refl, e)
 
--- what stands for an absent part, and what the part gives
+-- what an absent part gives, and what the part gives
 pub optional_ok : {X : Type 0} (absent : X) (part : Data → Part X) (P : X → Type 0) → P absent
     → ((d : Data) (x : X) → part d ≡ Ok x → P x) → (o : Option Data) (x : X) → optional absent part o ≡ Ok x
     → P x

@@ -48,7 +48,7 @@ place_later p x xs n no' h =
     let at = found (nat_lt (position_or_len p (x ∷ xs)) (length (x ∷ xs))) (position_or_len p (x ∷ xs)) n h in
     subst (λ m. 1 ≤ m) at.1 (later (p x) (position_or_len p xs) no')
 
--- the built-in field stands first: a field of another name stands behind it
+-- the built-in field comes first: a field of another name comes after it
 abbrev pub IsBehindFirst : List NamedField → Type 0
 IsBehindFirst fields = (name : List ℕ) (n : ℕ) → bytes_eq name (codes "dialog") ≡ false → place_of_field fields name ≡ Some n → 1 ≤ n
 
@@ -58,13 +58,13 @@ behind_first first others named name n other h = place_later (is_field_named nam
 
 -- ---- items
 
--- a test that fails behind one that doesn't
+-- a test that fails after one that doesn't
 not_free : (free account : Bool) → (not free && account) ≡ false → free ≡ false → account ≡ false
 not_free true account h e = cc
 not_free false account h e = h
 
 module _ (fields : List NamedField) (behind : IsBehindFirst fields) where
-  -- what an item is that was read; where account fields may not stand, it is none
+  -- what an item is that was read; where account fields may not be, it is none
   abbrev Fits : Bool → TemplateItem → Type 0
   Fits free item = IsInRange fields item × (free ≡ false → IsSingle fields item)
 

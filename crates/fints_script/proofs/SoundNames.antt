@@ -36,7 +36,7 @@ not_any p (y ∷ ys) i zero x lt e h = absurd (omega (arith, lt))
 not_any p (y ∷ ys) zero (suc j) x lt e h = subst (λ z. p z ≡ false) (same_Some y x e) (or_parts (p y) (list_any p (take j ys)) h).0
 not_any p (y ∷ ys) (suc i) (suc j) x lt e h = not_any p ys i j x (omega (arith, lt)) e (or_parts (p y) (list_any p (take j ys)) h).1
 
--- the row at k tells the name, and no earlier row has it
+-- the row at k gives the name, and no earlier row has it
 abbrev IsNamedRow : List Data → ℕ → List ℕ → Type 0
 IsNamedRow rows k name = (row : Data) × (slice_get rows k ≡ Some row) × (name_in row ≡ Some name) × (list_any (is_called name) (take k rows) ≡ false)
 
@@ -54,7 +54,7 @@ apart name rows xs each i j d lt within e =
 -- ---- fields
 
 module _ (rows : List Data) (others : List NamedField) (each : fields_from rows ≡ Ok (map field_value others)) where
-  -- the row of a field tells its name, which is not the built-in one's
+  -- the row of a field gives its name, which is not the built-in one's
   field_named : (k : ℕ) (f : NamedField) → slice_get others k ≡ Some f
       → IsNamedRow rows k f.name × (f.name ≢ codes "dialog")
   field_named k f e =

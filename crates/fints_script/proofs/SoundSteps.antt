@@ -195,7 +195,7 @@ step_row around i (table ms) step e =
     subst (λ s. (m : Members) × (table ms ≡ table m) × IsStep around i m s) (same_ok read.0 step size.1) (ms, refl, step_is around i ms read.0 read.1 size.0)
 step_row around i _ step e = absurd cc
 
--- the row of a step tells its name, which no earlier row has
+-- the row of a step gives its name, which no earlier row has
 pub step_named : (around : Surroundings) (i : ℕ) (row : Data) (step : StepValue)
     → step_in around i row ≡ Ok step
     → (name_in row ≡ Some step.name) × (list_any (is_called step.name) (take i around.rows) ≡ false)

@@ -1,4 +1,4 @@
--- Elements, segments, signers and the seal tell the first kind that stands in them.
+-- Elements, segments, signers and the seal give the first kind of fault in them.
 use Rattle.std.proofs.Common.{◌≡◌, ◌⊎◌, ℕ, ◌+◌, Bool, true, false, ◌&&◌, not, cond, codes, List, [], ◌∷◌, length, Option, Some, None, Result, Ok, Err, refl, ap, sym, ◌∙◌, inl, inr, arith}
 use Rattle.std.specs.Prelude.{ok_or, slice_get}
 use Rattle.std.specs.List.{list_any}

@@ -1,4 +1,4 @@
--- A part tells the first of the kinds that stand in it: parts side by side, and parts that rest on others.
+-- A part gives the first of the kinds of fault in it: parts side by side, and parts that rest on others.
 use Rattle.std.proofs.Common.{◌≡◌, ◌⊎◌, ℕ, ◌≤◌, Bool, true, false, cond, List, [], ◌∷◌, nat_le, Option, Some, None, Ok, Err, refl, ap, subst, sym, inl, inr, arith}
 use Rattle.std.specs.Prelude.{ok_or}
 use Rattle.std.proofs.lemmas.Bool.{cases_Bool}
@@ -10,7 +10,7 @@ use Rattle.fints_script_rows.specs.declared.fault.FaultKind.{FaultKind}
 use Rattle.fints_script_rows.specs.declared.fault.FaultKind.TheVariants as kinds
 use Rattle.fints_script.specs.RefusalLaws.{Behind, InSome, Just, Kinds, NoFault, Where, ◌∪◌}
 
--- a part has a value where no fault stands, or tells the first kind that does
+-- a part has a value where no fault is, or gives the first kind that is there
 abbrev pub Tells : {X : Type 0} → Part X → Kinds → Type 0
 Tells (Ok x) faults = (k : FaultKind) → faults k → ⊥
 Tells (Err kind) faults = faults kind × ((k : FaultKind) → faults k → rank kind ≤ rank k)
@@ -26,7 +26,7 @@ pub record Told {X : Type 0} (low high : ℕ) (part : Part X) (faults : Kinds) :
 
 -- ---- the order
 
--- no kind comes behind the last
+-- no kind comes after the last
 pub last : (k : FaultKind) → rank k ≤ 11
 last kinds.Memory = omega arith
 last kinds.NotToml = omega arith
@@ -169,7 +169,7 @@ same_kinds {X} {low} {high} part faults others to from told =
     as_told (Ok x) tells = λ k s. tells k (from k s)
     as_told (Err kind) tells = (to kind tells.0, λ k s. tells.1 k (from k s))
 
--- a test that passes over what is behind it
+-- a test that passes over what comes after it
 pub else_told : {X : Type 0} {low high : ℕ} {p : Part X} {faults : Kinds} (b : Bool) (x : X)
     → Told low high p faults
     → Told low high (cond b (Ok x) p) (λ k. (b ≡ false) × faults k)
@@ -180,7 +180,7 @@ else_told {X} {low} {high} {p} {faults} false x told =
 
 -- ---- parts side by side
 
--- no fault stands in the other part
+-- no fault is in the other part
 left_alone : {X : Type 0} (p : Part X) (faults others : Kinds) → ((k : FaultKind) → others k → ⊥)
     → Tells p faults
     → Tells p (faults ∪ others)
@@ -307,7 +307,7 @@ module _ {low high : ℕ} where
 
   -- ---- parts that rest on others
 
-  -- where what rests on a value has kinds behind those of the value
+  -- where what rests on a value has kinds after those of the value
   pub then_told : {X Y : Type 0} {p : Part X} {faults others : Kinds} (of : X → Part Y) (mid : ℕ) → low ≤ mid
       → mid ≤ high
       → Told low mid p faults → Within mid high others → ((x : X) → p ≡ Ok x → Tells (of x) others)
@@ -371,7 +371,7 @@ module _ {low high : ℕ} where
           from k (inl s) = one.tells.1 k s
           from k (inr s) = absurd (let h = s.1 in cc)
 
--- a test that is to pass before what has kinds behind its own
+-- a test that is to pass before what has kinds after its own
 pub choice_told : {X : Type 0} {p : Part X} {faults : Kinds} {high : ℕ} (b : Bool) (kind : FaultKind)
     → rank kind ≤ high
     → Told (rank kind) high p faults

@@ -1,4 +1,4 @@
--- Values by their types, tables by their keys, names and fields tell the first kind that stands in them.
+-- Values by their types, tables by their keys, names and fields give the first kind of fault in them.
 use Rattle.std.proofs.Common.{◌≡◌, ℕ, ◌<◌, ◌≤◌, Bool, true, false, ◌&&◌, ◌||◌, cond, codes, List, [], ◌∷◌, length, nat_lt, nat_le, Option, Some, None, Ok, Err, refl, ap, subst, sym, ◌∙◌, inl, inr, arith, ◌⊎◌}
 use Rattle.std.specs.Prelude.{ok_or}
 use Rattle.std.specs.Cmp.Lexicographic.{pointwise}

@@ -1,4 +1,4 @@
--- Branches, steps and the top tell the first kind that stands in them.
+-- Branches, steps and the top give the first kind of fault in them.
 use Rattle.std.proofs.Common.{◌≡◌, ℕ, ◌+◌, ◌≤◌, Bool, true, false, ◌&&◌, ◌||◌, not, nat_le, nat_lt, cond, codes, List, [], length, Option, Some, None, Ok, Err, refl, ap, subst, sym, ◌∙◌, inl, inr, arith}
 use Rattle.std.specs.Prelude.{is_some, position, ok_or}
 use Rattle.std.specs.Str.{bytes_eq}

@@ -1,4 +1,4 @@
--- What a step rests on and consists of, as the reader has it. Private contracts alone name these words.
+-- What a step rests on and consists of, as the reader has it. Only private contracts name these words.
 use Rattle.std.specs.Prelude.{ℕ, Bool, List, map, option_map}
 use Rattle.std.specs.declared.alloc.Global.{Global}
 use Rattle.std.specs.Prelude.{Vec}

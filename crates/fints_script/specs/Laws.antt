@@ -13,7 +13,7 @@ use Rattle.fints_script.specs.Sound.{IsSound}
 abbrev pub OneScript : Type 0
 OneScript = (text : List ℕ) (s t : ScriptValue) → Denotes text s → Denotes text t → s ≡ t
 
--- a text with a fault denotes none; want of memory is no fault of a text
+-- a text with a fault denotes none; running out of memory isn't a fault of a text
 abbrev pub NoScriptAtFault : Type 0
 NoScriptAtFault = (text : List ℕ) (f : ScriptFault) (s : ScriptValue) → IsFirstOf text f → Denotes text s → ⊥
 

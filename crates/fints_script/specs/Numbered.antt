@@ -1,4 +1,4 @@
--- What has a number in a list that counts from 1. What is known of it stands last, under a heading: proofs alone cite that.
+-- What has a number in a list that counts from 1. What is known of it comes last, under a heading: only proofs cite that.
 use Rattle.std.specs.Prelude.{◌≡◌, ℕ, zero, suc, ◌-◌, ◌<◌, ◌≤◌, List, [], ◌∷◌, length, slice_get, Option, Some, None}
 use Rattle.std.specs.List.{All}
 use Rattle.std.proofs.Common.{refl, subst, arith}

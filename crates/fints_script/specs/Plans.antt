@@ -1,5 +1,5 @@
 -- A script with an order table: which accounts and processes are open, and which values are admitted. Words
--- of private contracts and proofs alone stand last, under a heading.
+-- only for private contracts and proofs come last, under a heading.
 use Rattle.std.specs.Prelude.{◌≡◌, ◌⊎◌, ℕ, ◌+◌, Bool, true, false, ◌&&◌, ◌||◌, not, if◌then◌else◌, codes, List, [], ◌∷◌, length, slice_get, zip, All, Option, Some, None, option_map}
 use Rattle.std.specs.List.{enumerate_from, filter_map, flat_map, list_all}
 use Rattle.std.specs.Str.{bytes_eq}
@@ -74,7 +74,7 @@ faults_in_segments fields orders n first templates =
     filter_map (λ (p : ℕ × Template). option_map (λ left. open_fault left n p.0) (open_of fields orders p.1))
     (enumerate_from first templates)
 
--- the faults of step n: before its segments stand HNHBK and the signers' HNSHK
+-- the faults of step n: before its segments come HNHBK and the signers' HNSHK
 abbrev pub faults_in_step : List NamedField → List OrderRow → ℕ → StepValue → List PlanFault
 faults_in_step fields orders n step =
     faults_in_segments fields orders n (length step.signers + 2) step.templates
@@ -104,7 +104,7 @@ Admits fields values =
     (length values ≡ length fields)
     × All (λ (p : NamedField × NamedValue). IsChosen p.0 p.1) (zip fields values)
 
--- ---- of private contracts and proofs alone
+-- ---- of private contracts and proofs only
 
 -- element 2 of an HKTAN is all literals; that of an order that names an account is all literals, or one field of listed accounts by itself
 pub record IsClosedTemplate (fields : List NamedField) (orders : List OrderRow) (t : Template) : Type 0 where

@@ -1,4 +1,4 @@
--- Which kinds of fault stand in each place of a text, whatever is asked first. Laws alone stand on this file.
+-- Which kinds of fault each place of a text has, whatever is asked first. Only laws rest on this file.
 use Rattle.std.specs.Prelude.{◌≡◌, ◌⊎◌, ◌<◌, ◌≤◌, codes, ℕ, ◌+◌, Bool, true, false, ◌&&◌, not, List, [], ◌∷◌, length, position, slice_get, take, Option, Some, None, is_some, Result, Ok, Err}
 use Rattle.std.specs.List.{list_all, list_any}
 use Rattle.std.specs.Cmp.Lexicographic.{pointwise}
@@ -66,7 +66,7 @@ abbrev pub InSome : (Data → Kinds) → List Data → Kinds
 InSome faults [] = NoFault
 InSome faults (d ∷ ds) = faults d ∪ InSome faults ds
 
--- a list is empty, or has more entries than so many
+-- a list is empty, or has more than `most` entries
 abbrev pub Empty : List Data → Kinds
 Empty [] = Just kinds.WrongKind
 Empty (d ∷ ds) = NoFault
@@ -84,7 +84,7 @@ abbrev pub InInteger : ℕ → ℕ → Data → Kinds
 InInteger low high (integer z) = Where kinds.Limit (number_between low high (integer z) ≡ None)
 InInteger low high _ = Just kinds.WrongKind
 
--- in what stands at a key that must be there, and at one that may be absent
+-- in the value of a key that must be there, and of one that may be absent
 abbrev pub InNeeded : (Data → Kinds) → Option Data → Kinds
 InNeeded faults None = Just kinds.Missing
 InNeeded faults (Some d) = faults d
@@ -99,7 +99,7 @@ At ms key faults = InNeeded faults (get_member key ms)
 abbrev pub AtOptional : Members → List ℕ → (Data → Kinds) → Kinds
 AtOptional ms key faults = InGiven faults (get_member key ms)
 
--- in a table that may have these keys: another key, or what stands at these
+-- in a table that may have these keys: another key, or the values of these
 abbrev pub InKeys : List (List ℕ) → Members → Kinds → Kinds
 InKeys keys ms faults = Where kinds.UnknownKey (only_keys keys ms ≡ false) ∪ faults
 
@@ -168,7 +168,7 @@ InClassOf ms names.OneOf = At ms (codes "values") (InArray (InListed text_in InT
 InClassOf ms names.Account =
     At ms (codes "values") (InArray (InListed account_in InAccount (pointwise bytes_eq) (list_all is_short)))
 
--- a row of `field` behind earlier ones
+-- a row of `field` after earlier ones
 abbrev pub InField : List Data → Data → Kinds
 InField earlier (table ms) =
     InKeys (field_keys (class_of ms)) ms
@@ -178,7 +178,7 @@ InField earlier _ = Just kinds.WrongKind
 
 -- ---- elements
 
--- a field that is referred to; one of listed accounts stands only where it may (free)
+-- a field that is referred to; one of listed accounts is allowed only where `free`
 abbrev pub InFieldAt : List NamedField → Bool → Option ℕ → Kinds
 InFieldAt fields free None = Just kinds.NoSuchName
 InFieldAt fields free (Some place) =
@@ -232,7 +232,7 @@ all_items _ = 0
 abbrev pub InFrame : List NamedField → Data → Kinds
 InFrame fields d = InElements fields false d ∪ Over MAX_TEMPLATE_ITEMS (all_items d)
 
--- a row of `signer` behind earlier ones
+-- a row of `signer` after earlier ones
 abbrev pub InSigner : List NamedField → List Data → Data → Kinds
 InSigner fields earlier (table ms) =
     InKeys signer_keys ms
@@ -365,7 +365,7 @@ InWhole text =
     ∪ Where kinds.NotToml ((length text ≤ MAX_TEXT) × (document text ≡ None))
     ∪ (λ k. (ms : Members) × (document text ≡ Some ms) × InTop ms k)
 
--- a fault of the kind stands in the place
+-- a fault of the kind is in the place
 abbrev pub Stands : List ℕ → Place → Kinds
 Stands text places.Top = InWhole text
 Stands text (places.Field n) =
@@ -381,7 +381,7 @@ Stands text (places.Step n) =
 
 -- ---- the laws
 
--- a fault of the kind stands there, and none of a kind before it in the order
+-- a fault of the kind is there, and none of a kind before it in the order
 pub record IsFirstKind (faults : Kinds) (kind : FaultKind) : Type 0 where
   pub stands : faults kind
   pub first : (other : FaultKind) → rank other < rank kind → faults other → ⊥
@@ -403,18 +403,18 @@ row_of _ = 0
 abbrev pub IsEarlier : Place → Place → Type 0
 IsEarlier p q = (part_of p < part_of q) ⊎ ((part_of p ≡ part_of q) × (row_of p < row_of q))
 
--- what is told of a text is the first kind of fault that stands in the place
+-- the fault returned for a text is of the first kind that its place has
 abbrev pub FirstKindTold : Type 0
 FirstKindTold =
     (text : List ℕ) (f : ScriptFault) → IsFirstOf text f → IsFirstKind (Stands text f.place) f.kind
 
--- and in the places before it none stands
+-- and the places before it have none
 abbrev pub FirstPlaceTold : Type 0
 FirstPlaceTold =
     (text : List ℕ) (f : ScriptFault) → IsFirstOf text f
     → (place : Place) (kind : FaultKind) → IsEarlier place f.place → Stands text place kind → ⊥
 
--- none stands in a text that denotes a script
+-- a text that denotes a script has none
 abbrev pub NoneInScript : Type 0
 NoneInScript =
     (text : List ℕ) (s : ScriptValue) → Denotes text s

@@ -1,4 +1,4 @@
--- What holds of every script that was read, as a law says. Laws, private contracts and models alone cite these words.
+-- What holds of every script that was read, as a law says. Only laws, private contracts and models cite these words.
 use Rattle.std.specs.Prelude.{◌≡◌, ◌≢◌, ℕ, ◌+◌, ◌<◌, ◌≤◌, ◌⊎◌, false, IsTrue, List, length, map, slice_get, Some, All, AllPairs, [], IfSome, IsSome}
 use Rattle.fints_syntax.specs.Kind.{IsKindText, frame_kinds}
 use Rattle.fints_script_templates.specs.Figures.{figures_of}
@@ -19,7 +19,7 @@ use Rattle.fints_script_templates.specs.declared.template.Template.{Template}
 use Rattle.fints_script_rows.specs.declared.limits.TheConstants.{MAX_BRANCHES, MAX_FIELDS, MAX_REPEAT, MAX_SEGMENTS, MAX_SIGNATURES, MAX_SIGNERS, MAX_STEPS, MAX_TEMPLATE_ITEMS, MAX_WEIGHT}
 use Rattle.fints_script_templates.specs.declared.template.Signer.{Signer}
 
--- a field of the script; the built-in one at 0 stands as the dialogue id alone
+-- a field of the script; the built-in one at 0 is used only as the dialogue id
 abbrev pub IsInRange : List NamedField → TemplateItem → Type 0
 IsInRange fields (Literal item) = Unit {0}
 IsInRange fields Dialog = Unit {0}
@@ -37,7 +37,7 @@ pub record IsFrameElement (fields : List NamedField) (items : List TemplateItem)
   pub within : All (IsInRange fields) items
   pub single : All (IsSingle fields) items
 
--- an element of a step's segment has an item; a field of listed accounts stands there alone
+-- an element of a step's segment has an item; a field of listed accounts is its only item
 pub record IsBodyElement (fields : List NamedField) (items : List TemplateItem) : Type 0 where
   pub some : 0 < length items
   pub within : All (IsInRange fields) items
@@ -75,7 +75,7 @@ pub record LeadsOnward (count n : ℕ) (step : StepValue) : Type 0 where
   pub branches : All (λ (branch : Branch). IsOnward count n branch.to) step.branches
   pub otherwise : IsOnward count n step.otherwise
 
--- a step of the script, whose weight hangs on no other row
+-- a step of the script, whose weight depends on no other row
 pub record IsSoundStep (s : ScriptValue) (step : StepValue) : Type 0 where
   pub signers : All (λ (place : ℕ). place < length s.signers) step.signers
   pub few_signers : length step.signers ≤ MAX_SIGNATURES

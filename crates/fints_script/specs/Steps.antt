@@ -45,7 +45,7 @@ pub record Surroundings : Type 0 where
 abbrev pub is_word : List ℕ → Bool
 is_word text = bytes_eq text (codes "again") || bytes_eq text (codes "stop")
 
--- a step behind that of row i, by the row that has its name first; rows count from 0, and steps from 1
+-- a step after that of row i, by the row that has its name first; rows count from 0, and steps from 1
 abbrev pub later_step : ℕ → Option ℕ → Part Target
 later_step i None = Err kinds.NoSuchName
 later_step i (Some row) = if nat_le row i then Err kinds.BackwardJump else Ok (targets.Step (row + 1))

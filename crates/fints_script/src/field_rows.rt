@@ -26,7 +26,7 @@ fn dialog_field() -> NamedField
     }
 }
 
-/// The fields of the rows, behind the built-in `dialog`.
+/// The fields of the rows, after the built-in `dialog`.
 pub fn read_fields(alloc: Global, rows: &[Value]) -> Result<Fields, ScriptFault>
     requires { length rows.now ≤ MAX_FIELDS }
     ensures fields { IfOk result (DenoteFields (map view rows.now)) }

@@ -1,4 +1,4 @@
-//! Dialogue scripts: what their texts stand for, and the plans that they become with an order table.
+//! Dialogue scripts: what their texts denote, and the plans that they become with an order table.
 #![tactic(auto)]
 
 mod around;

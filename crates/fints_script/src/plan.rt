@@ -1,4 +1,4 @@
-//! Plans: scripts with an order table, of which nothing is left open.
+//! Plans: scripts with an order table, and nothing left open.
 ghost use Rattle.std.specs.Prelude.{◌≡◌, ◌↔◌, ◌<◌, ◌≤◌, ◌-◌, length, map, option_map, slice_get, Some, All, zip, IsTrue, IfOk, IfErr};
 ghost use Rattle.fints_script.specs.Plans.{IsClosed, IsPlanFault, IsChosen, Admits};
 ghost use Rattle.fints_script.specs.Scripts.{IsRead};

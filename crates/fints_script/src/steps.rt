@@ -24,7 +24,7 @@ use std::marker::Model;
 /// signers.
 pub type Sent = (((Name, Vec<Template>), bool), Vec<usize>);
 
-/// The parts of a step: behind what it sends, how often it is sent in a row at most, its branches, and
+/// The parts of a step: what it sends, then how often it is sent in a row at most, its branches, and
 /// its default.
 pub type Parts = (((Sent, u16), Vec<Branch>), Target);
 
@@ -144,7 +144,7 @@ impl Step {
         passes(BranchAt { branches, branch }, code)
     }
 
-    /// An answer that has the code and fires this branch: the code alone where that fires it, else the
+    /// An answer that has the code and fires this branch: only the code where that fires it, else the
     /// branch's opener and the code.
     pub fn carrying(&self, alloc: Global, branch: usize, code: Code) -> Result<Answer, Memory>
         requires from { 1 ≤ branch }
@@ -258,7 +258,7 @@ pub fn whole_step(parts: Parts) -> Step
     }
 }
 
-/// The step, unless it is too large for the script that it stands in.
+/// The step, unless it is too large for the script that it is in.
 pub fn sized_step(around: &Around<'_, '_>, step: Step) -> Result<Step, FaultKind>
     ensures { result ≡ sized_step (surroundings_of around.now) step }
 {

@@ -71,7 +71,7 @@ fits_all p n len each =
 
 -- ---- the digit before another
 
--- a pattern that doesn't tell the digit e there matches no fewer codes with another digit in its place
+-- a pattern that doesn't single out the digit e there matches no fewer codes with another digit in its place
 untold : (p u v : List ℕ) (e x : ℕ)
     → (list_all (λ (q : ℕ × ℕ). fits q.0 q.1) (zip (take (length u) p) u) && eqb (get_or p (length u) 0) e)
     ≡ false
@@ -105,7 +105,7 @@ in_block n m s low high =
     let start = div-mul-le_self n s in
     div-eq_of_lt-le {k = n / s} s {m = m} (omega arith) high
 
--- a block of which no code opens the branch
+-- a block in which no code opens the branch
 pub barren_by : (branches : List Branch) (b n s : ℕ) → 1 ≤ s → s ≤ 10000
     → ((other : ℕ) → other / s ≡ n / s → IsOpener branches b other → ⊥) → IsBarren branches b n s
 barren_by branches b n s some most block = record {
@@ -149,7 +149,7 @@ digits_text a b c d lb lc ld =
 whole : (n : ℕ) → n ≡ 1000 * (n / 1000) + 100 * ((n / 100) % 10) + 10 * ((n / 10) % 10) + n % 10
 whole n = omega arith
 
--- an opener with another digit at a place is one too, where the branch is free there and no earlier pattern tells that digit
+-- an opener with another digit at a place is one too, if the branch is free there and no earlier pattern singles out that digit
 opener_lower : (branches : List Branch) (b other lower : ℕ) (u v : List ℕ) (e x : ℕ)
     → code_text other ≡ u ++ x ∷ v → code_text lower ≡ u ++ e ∷ v → lower < 10000
     → HasFree branches b (length u)
@@ -175,7 +175,7 @@ opener_lower branches b other lower u v e x is_other is_lower small free untold_
 abbrev OpensBelow : List Branch → ℕ → ℕ → Type 0
 OpensBelow branches b n = (low : ℕ) × (low < n) × IsOpener branches b low
 
--- no earlier pattern tells this digit there
+-- no earlier pattern singles out this digit there
 abbrev Untold : List Branch → ℕ → ℕ → ℕ → ℕ → Type 0
 Untold branches b n place digit = All (λ (p : Branch). tells p.on (code_text n) place digit ≡ false) (take (b - 1) branches)
 

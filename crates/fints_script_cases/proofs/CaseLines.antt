@@ -1,4 +1,4 @@
--- The lines of a case: what they tell, what may come next, and that they tell one case at most.
+-- The lines of a case: what they say, what may come next, and that they denote one case at most.
 use Rattle.std.proofs.Common.{ℕ, suc, ◌+◌, ◌<◌, ◌≡◌, ◌≢◌, ◌⊎◌, List, [], ◌∷◌, ◌++◌, map, codes, length, get_or, slice_get, refl, ap, sym, subst, ◌∙◌, arith, inl, inr, IsSomeAnd}
 use Rattle.std.specs.List.{All, AllPairs}
 use Rattle.std.proofs.lemmas.List.{append_assoc, length-append, get_or_append_left, get_or_at}

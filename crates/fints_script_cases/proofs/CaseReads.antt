@@ -138,7 +138,7 @@ no_lines : (w : List NamedValue) (b : List (List ℕ)) → [] ≡ map field_text
 no_lines [] b e = refl
 no_lines (x ∷ w) b e = absurd cc
 
--- the header alone is no case
+-- the header by itself is no case
 no_value_no_case : (v : List NamedValue) (a : List (List ℕ)) → length v ≡ 0 → length a ≡ 0
     → AreCaseLines (case_lines v a) → ⊥
 no_value_no_case [] [] hv ha c = no_fields c.values (no_lines c.values c.answers (let all = c.lines_are in cc)) c.is.fields

@@ -31,7 +31,7 @@ bytes_are value h i =
 pub value_are : (value : List ℕ) → IsBytes value → IsValue value
 value_are value h k d within = rw (get_or_default value k d 0 within) (h k)
 
--- the hex of bytes tells them
+-- the hex of bytes determines them
 pub hex_once : (v w : List ℕ) → IsValue v → IsValue w → encode_lower v ≡ encode_lower w → v ≡ w
 hex_once v w hv hw e =
     let a = decode_of-encode_lower v (bytes_are v hv) in

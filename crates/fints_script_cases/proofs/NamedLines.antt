@@ -1,4 +1,4 @@
--- Lines of a word, a name and what stands behind the name's space, whatever that is.
+-- Lines of a word, a name and what comes after the name's space, whatever that is.
 use Rattle.std.proofs.Common.{ℕ, ◌≡◌, ◌≢◌, List, ◌∷◌, ◌++◌, refl, subst, sym, ◌∙◌, arith}
 use Rattle.std.specs.List.{All}
 use Rattle.std.proofs.lemmas.List.{append_cancel_left}
@@ -15,7 +15,7 @@ named_without word name tail front is back =
     (All-append (λ x. x ≢ 10) name (32 ∷ tail) (name_without 10 name refl is)
     (All-cons (λ x. x ≢ 10) 32 tail (λ e. omega (arith, e)) back))
 
--- such a line has one name, and one text behind it
+-- such a line has one name, and one text after it
 pub named_once : (word n m s t : List ℕ) → IsName n → IsName m → word ++ (n ++ 32 ∷ s) ≡ word ++ (m ++ 32 ∷ t)
     → (n ≡ m) × (s ≡ t)
 named_once word n m s t hn hm e =

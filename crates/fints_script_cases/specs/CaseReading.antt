@@ -1,4 +1,4 @@
--- What the reader of cases knows on its way through a text. Private contracts alone cite these words.
+-- What the reader of cases knows on its way through a text. Only private contracts cite these words.
 use Rattle.std.specs.Prelude.{ℕ, ◌≡◌, ◌≢◌, ◌<◌, ◌≤◌, List, [], ◌∷◌, ◌++◌, codes, length, map, slice_get}
 use Rattle.std.specs.Option.{ForSome}
 use Rattle.std.specs.List.{All, AllPairs}
@@ -27,7 +27,7 @@ abbrev pub IsCaseLine : CaseLine → Type 0
 IsCaseLine (Field pair) = IsNamedValue pair
 IsCaseLine (Reply answer) = IsAnswer answer
 
--- the line may stand after these values and answers
+-- the line may come after these values and answers
 abbrev pub IsNext : List NamedValue → List (List ℕ) → CaseLine → Type 0
 IsNext values answers (Field pair) =
     (length answers ≡ 0) × All (λ (p : NamedValue). p.name ≢ pair.name) values
@@ -54,7 +54,7 @@ pub record IsBegun (values : List NamedValue) (answers : List (List ℕ)) : Type
   pub order : length values ≡ 0 → length answers ≡ 0
   pub short : length (case_text values answers) ≤ MAX_TEXT
 
--- a text may go on behind what was taken, in whose names each name is looked up
+-- a text may go on after what was taken, in whose names each name is looked up
 pub record IsReady (taken : Taken) : Type 0 where
   pub begun : IsBegun taken.case.values taken.case.answers.items
   pub names : HoldsNames (value_names taken.case.values) taken.names

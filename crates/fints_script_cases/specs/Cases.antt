@@ -35,9 +35,9 @@ case_lines values answers = codes "fints-case 1" ∷ (map field_text values ++ m
 abbrev pub case_text : List NamedValue → List (List ℕ) → List ℕ
 case_text values answers = text_of_lines (case_lines values answers)
 
--- ---- which text stands for which case
+-- ---- which text denotes which case
 
--- the first name is `dialog`, and no name stands twice
+-- the first name is `dialog`, and no name comes twice
 pub record AreFields (values : List NamedValue) : Type 0 where
   pub first : IsSomeAnd (slice_get values 0) (λ pair. pair.name ≡ codes "dialog")
   pub apart : AllPairs (λ (p q : NamedValue). p.name ≢ q.name) values
@@ -53,11 +53,11 @@ pub record IsCase (values : List NamedValue) (answers : List (List ℕ)) : Type 
   pub answers_are : All IsAnswer answers
   pub short : length (case_text values answers) ≤ MAX_TEXT
 
--- the text stands for this case
+-- the text denotes this case
 abbrev pub IsCaseOf : List ℕ → List NamedValue → List (List ℕ) → Type 0
 IsCaseOf text values answers = IsCase values answers × (text ≡ case_text values answers)
 
--- it stands for no two cases
+-- it denotes no two cases
 abbrev pub OneCase : List ℕ → Type 0
 OneCase text =
     (values others : List NamedValue) (answers replies : List (List ℕ)) → IsCaseOf text values answers

@@ -74,7 +74,7 @@ fn is_told(earlier: &[Branch], digits: [u8; 4], place: EarlierPlace, digit: u8) 
 }
 
 /// Whether no code of those with the same digits before a place opens the branch, if none below this
-/// one does: the digit before its digit there is told from others by no earlier pattern.
+/// one does: no earlier pattern singles out the digit before its digit there.
 fn is_spent(at: BranchAt<'_>, code: Code, place: EarlierPlace) -> bool
     ensures { IsTrue result → IsBarren at.entry.branches.now at.entry.branch code (10 * size_at place.index) }
 {
@@ -102,7 +102,7 @@ fn spent_block(at: BranchAt<'_>, code: Code) -> Option<u16>
     None
 }
 
-/// A block about the code of which the branch's own pattern matches none.
+/// A block about the code in which the branch's own pattern matches no code.
 fn missed_block(at: BranchAt<'_>, code: Code) -> Option<u16>
     ensures { MatchOption result
         (ForSome (slice_get at.entry.branches.now (at.entry.branch - 1))
@@ -115,7 +115,7 @@ fn missed_block(at: BranchAt<'_>, code: Code) -> Option<u16>
     at.branches[at.branch - 1].on.missed(code)
 }
 
-/// A block about the code of which an earlier pattern matches all.
+/// A block about the code in which an earlier pattern matches every code.
 fn taken_block(at: BranchAt<'_>, code: Code) -> Option<u16>
     ensures { MatchOption result
         (All (λ earlier. IsFalse (matches earlier.on code))

@@ -56,7 +56,7 @@ pub fn carries(at: BranchAt<'_>, code: Code) -> bool
     is_passed(at, code) && opener(at).is_some()
 }
 
-/// An answer that has the code and fires the branch: the code alone where that fires it, else the
+/// An answer that has the code and fires the branch: only the code where that fires it, else the
 /// branch's opener and the code.
 pub fn carrying(alloc: Global, at: BranchAt<'_>, code: Code) -> Result<Answer, Memory>
     requires { Carries at.branches.now at.branch code }

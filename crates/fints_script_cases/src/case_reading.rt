@@ -20,7 +20,7 @@ use hex::FromHexError;
 use std::alloc::Global;
 use std::collections::BTreeSet;
 
-/// What a line after the first tells.
+/// What a line after the first says.
 #[derive(Drop)]
 pub enum CaseLine {
     Field(NamedValue),
@@ -51,7 +51,7 @@ fn parse_hex(alloc: Global, text: &[u8]) -> Result<Option<Vec<u8>>, Memory>
     }
 }
 
-/// The value that a field's line tells: no bytes by `-`, others by lower hex.
+/// The value that a field's line says: no bytes by `-`, others by lower hex.
 fn parse_value(alloc: Global, text: &[u8]) -> Result<Option<Bytes>, Memory>
     ensures { IfOk result (IsReadAs IsValue value_text text.now) }
 {
@@ -85,7 +85,7 @@ fn parse_field(alloc: Global, text: &[u8]) -> Result<Option<NamedValue>, Memory>
     }
 }
 
-/// The code after a space that the text begins with, and what stands after it.
+/// The code after a space that the text begins with, and what comes after it.
 fn first_code(text: &[u8]) -> Option<(Code, &[u8])>
     ensures { MatchOption result
         ((code : ℕ) (rest : List ℕ) → code < 10000 → text.now ≢ (32 ∷ code_text code) ++ rest)
@@ -160,7 +160,7 @@ fn is_new(taken: &Taken, name: Name) -> bool
     !taken.names.contains(&name)
 }
 
-/// Whether the line may stand after what the case holds.
+/// Whether the line may come after what the case holds.
 fn is_next(taken: &Taken, line: &CaseLine) -> bool
     requires { HoldsNames (value_names taken.now.case.values) taken.now.names }
     ensures { IsTrue result ↔ IsNext taken.now.case.values taken.now.case.answers.items line.now }
@@ -221,7 +221,7 @@ impl LineTaker for Taken {
 }
 
 impl Case {
-    /// The case that the text stands for. Each name is looked up in an ordered set.
+    /// The case that the text denotes. Each name is looked up in an ordered set.
     pub fn read(alloc: Global, text: &[u8]) -> Result<Case, CaseFault>
         ensures case { IfOk result (λ case. IsCaseOf text.now case.values case.answers.items) }
         ensures refusal { IfErr result (IsCaseFault text.now) }

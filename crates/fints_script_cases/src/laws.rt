@@ -23,12 +23,12 @@ pub fn open_branches_lead()
         → CanLead branches otherwise target ↔ IsOpenTo branches otherwise target }
 {}
 
-/// An opener alone leads to its branch's target.
+/// An opener by itself leads to its branch's target.
 pub fn openers_lead()
     ensures { (branches : List Branch) (otherwise : Target) → OpenersLead branches otherwise }
 {}
 
-/// A text stands for one case at most.
+/// A text denotes one case at most.
 pub fn one_case()
     ensures { (text : List ℕ) → OneCase text }
 {}

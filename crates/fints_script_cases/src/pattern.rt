@@ -142,7 +142,7 @@ impl Pattern {
         all_fit(&self.places[..place], &digits[..place]) && self.places[place] == digit
     }
 
-    /// The size of the blocks of codes of each of which it matches all or none.
+    /// The size of the blocks of codes: of the codes in one block it matches all or none.
     pub(crate) fn block(&self) -> u16
         ensures some { 1 ≤ result }
         ensures most { result ≤ 10000 }
@@ -163,7 +163,7 @@ impl Pattern {
         10000
     }
 
-    /// The size of the block about the code of which it matches none, if it doesn't match the code.
+    /// The size of the block about the code in which it matches none, if it doesn't match the code.
     pub(crate) fn missed(&self, code: Code) -> Option<u16>
         ensures { MatchOption result
             (IsTrue (matches self.now code))

@@ -67,7 +67,7 @@ module _ {X : Type 0} (text : X → List ℕ) (count : X → ℕ) where
   unfound xs x k found text_is count_is holds none (j, lt, at) =
       false≢true (sym none ∙ holds k ∙ list_any-from_Any (has_key k) xs (j, x, lt, at, own_key x k text_is count_is))
 
-  -- a value whose key is found among those before it is equal to one of them, where text and number tell a value
+  -- a value whose key is found among those before it equals one of them, if text and number determine a value
   pub found_twice : ((a b : X) → text a ≡ text b → count a ≡ count b → a ≡ b)
       → (xs : List X) (i : ℕ) (x : X) (k : Key) (found : Key → Bool) → i < length xs → x ≡ get_or xs i x
       → k.0.now ≡ text x → k.1 ≡ count x

@@ -1,4 +1,4 @@
--- The text of a listed account tells its items.
+-- The text of a listed account determines its items.
 use Rattle.std.proofs.Common.{◌≡◌, ℕ, zero, suc, true, List, [], ◌∷◌, Some, ap, subst, inl, inr}
 use Rattle.std.specs.List.{All, slice_get}
 use Rattle.std.specs.Str.{bytes_eq}

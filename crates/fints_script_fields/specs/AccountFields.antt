@@ -1,4 +1,4 @@
--- What an account value keeps inside. The model of `AccountValue` alone cites these words.
+-- What an account value keeps inside. Only the model of `AccountValue` cites these words.
 use Rattle.std.specs.Prelude.{◌≡◌, List, ℕ}
 use Rattle.fints_script_fields.specs.Listed.{account_text}
 use Rattle.fints_script_fields.specs.declared.listed.AccountValue.TheInside.{Inside}

@@ -5,7 +5,7 @@ use Rattle.fints_script_fields.specs.Listed.{account_text, first_with}
 use Rattle.fints_script_fields.specs.declared.field.Field.{Field}
 use Rattle.fints_script_fields.specs.declared.listing.Account.{Account}
 
--- the text of a listed account tells its items
+-- the text of a listed account determines its items
 abbrev pub TextIsOneAccount : Type 0
 TextIsOneAccount =
     (c : Account) (j : ℕ) (a : List (List ℕ)) → slice_get c.values j ≡ Some a
@@ -21,7 +21,7 @@ ListedAreAdmitted =
     (f : Field) (place : ℕ) (account : List (List ℕ)) → slice_get (field_accounts f) place ≡ Some account
     → field_domain f (account_text account)
 
--- and stands as that account's items
+-- and has that account's items
 abbrev pub ListedStandAsItems : Type 0
 ListedStandAsItems =
     (f : Field) (place : ℕ) (account : List (List ℕ)) → slice_get (field_accounts f) place ≡ Some account

@@ -74,7 +74,7 @@ text_len-bare (b ∷ bs) h =
 bare : (b : ℕ) → (is_separator b || eqb b 63 || eqb b 64) ≡ false → IsBare b
 bare b h = rw h refl
 
--- digits, and letters and digits, are written as they stand
+-- digits, and letters and digits, are written as they are
 digit_bare : (b : ℕ) → IsCharacter Digits b → IsBare b
 digit_bare b h = bare b (grind (arith, nat_tests))
 

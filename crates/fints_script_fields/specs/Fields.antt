@@ -1,4 +1,4 @@
--- What a field admits and how it is written, by its class. Words of private contracts and proofs alone stand last, under a heading.
+-- What a field admits and how it is written, by its class. Words only for private contracts and proofs come last, under a heading.
 use Rattle.std.specs.Prelude.{◌≡◌, ℕ, List, [], length, map, replicate, slice_get, Some}
 use Rattle.fints_syntax_segments.specs.declared.item.OwnedItem.{OwnedItem}
 use Rattle.fints_script_fields.specs.Classes.{Counts, IsByte, IsCharacter, as_binary, as_text, longest_character, shortest_character}
@@ -14,7 +14,7 @@ field_domain (Bin c) v = Counts IsByte c.min c.max v
 field_domain (OneOf c) v = IsListed (λ x. x) c.values v
 field_domain (Account c) v = IsListed account_text c.values v
 
--- the items that stand for a value
+-- the items that a value has
 abbrev pub field_items : Field → List ℕ → List OwnedItem
 field_items (Text c) v = as_text v
 field_items (Bin c) v = as_binary v
@@ -52,9 +52,9 @@ abbrev pub field_accounts : Field → List (List (List ℕ))
 field_accounts (Account c) = c.values
 field_accounts _ = []
 
--- ---- of private contracts and proofs alone
+-- ---- of private contracts and proofs only
 
--- the value of a field stands as the items of the account that is listed at this place, counted from 0, and is their text
+-- the value of a field has the items of the account that is listed at this place, counted from 0, and is their text
 pub record IsListedAt (f : Field) (v : List ℕ) (place : ℕ) (account : List (List ℕ)) : Type 0 where
   pub listed : slice_get (field_accounts f) place ≡ Some account
   pub text : account_text account ≡ v

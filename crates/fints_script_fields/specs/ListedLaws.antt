@@ -111,7 +111,7 @@ module _ (better within : ℕ → ℕ → Bool) (tests : AreTests better within)
       earlier : All (IsWorse best) before
       later : All (IsNoBetter best) after
 
-    -- the first best of some is better than what stands before them, or that is best
+    -- the first best of some is better than what comes before them, or that is best
     abbrev Best : X → List X → X → Type 0
     Best best xs r = ((r ≡ best) × All (IsNoBetter best) xs) ⊎ (IsFirstBest xs r × IsWorse r best)
 

@@ -1,4 +1,4 @@
--- The text of a listed account tells its items, where it has any. Lemmas with their proofs: nothing here need be believed.
+-- The text of a listed account determines its items, if any. Lemmas with their proofs: nothing here need be believed.
 use Rattle.std.specs.Prelude.{◌≡◌, ◌≢◌, ◌⊎◌, ℕ, ◌≤◌, ◌||◌, true, false, List, [], ◌∷◌, ◌++◌, length, map}
 use Rattle.std.proofs.Common.{refl, ap, sym, subst, ◌∙◌, arith, inl, inr, append_assoc, eqb}
 use Rattle.std.proofs.lemmas.Bool.{cases_Bool}
@@ -109,7 +109,7 @@ text_tells (x ∷ w ∷ a) (y ∷ z ∷ b) some_a some_b e =
     (heads 58 58 (account_text (w ∷ a)) (account_text (z ∷ b)) t.1).1 in
     ap (λ (n : List ℕ). n ∷ w ∷ a) t.0 ∙ ap (λ (l : List (List ℕ)). y ∷ l) rest
 
--- the text with the number of items tells the items, even where there are none
+-- the text with the number of items determines the items, even where there are none
 pub text_and_count_tell : (a b : List (List ℕ)) → account_text a ≡ account_text b → length a ≡ length b
     → a ≡ b
 text_and_count_tell [] [] same count = refl

@@ -11,7 +11,7 @@ pub trait FieldClass {
     // the values that it admits
     ghost domain: { Self → List ℕ → Type 0 };
 
-    // the items that stand for a value
+    // the items that a value has
     ghost items_of: { Self → List ℕ → List OwnedItem };
 
     // how many bytes a value takes when it is written

@@ -19,24 +19,24 @@ pub fn account_is_its_items()
         → joined (field_items (fields.Account c) v) ≡ v }
 {}
 
-/// The text of a listed account tells its items: no two listed accounts have the same text.
+/// The text of a listed account determines its items: no two listed accounts have the same text.
 pub fn text_is_one_account()
     ensures { TextIsOneAccount }
 {}
 
-/// A value of an account field is the text of a listed account, and stands as its items.
+/// A value of an account field is the text of a listed account, and has its items.
 pub fn account_values_are_listed()
     ensures { (c : Account) (v : List ℕ) → field_domain (fields.Account c) v
         → IsListedSomewhere (fields.Account c) v }
 {}
 
-/// The text of each listed account is a value of the field, and stands as that account's items.
+/// The text of each listed account is a value of the field, and has that account's items.
 pub fn listed_accounts_are_values()
     ensures admitted { ListedAreAdmitted }
     ensures items { ListedStandAsItems }
 {}
 
-/// A field that lists no accounts stands as one item with its value.
+/// A field that lists no accounts is one item with its value.
 pub fn others_are_one_item()
     ensures { (f : Field) (v : List ℕ) → field_accounts f ≡ [] → (item : OwnedItem)
         × (field_items f v ≡ item ∷ []) × (item_value item ≡ v) }

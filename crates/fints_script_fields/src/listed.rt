@@ -23,7 +23,7 @@ pub trait Listed {
     fn text(&self) -> &[u8]
         ensures { result.now ≡ text self.now };
 
-    /// How many items it has. With the text they tell the value.
+    /// How many items it has. With the text they determine the value.
     fn count(&self) -> usize
         ensures { result ≡ count self.now };
 

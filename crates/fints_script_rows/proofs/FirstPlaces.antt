@@ -1,4 +1,4 @@
--- Where the items of a list that have a name stand, as items are looked at.
+-- The places of a list's items that have a name, as items are looked at.
 use Rattle.std.proofs.Common.{◌≡◌, ℕ, All, ◌+◌, ◌<◌, ◌≤◌, Bool, true, false, ◌&&◌, cond, List, [], ◌∷◌, ◌++◌, length, get_or, take, nat_lt, map, codes, Option, Some, None, refl, ap, subst, sym, ◌∙◌, inl, inr, arith, zero, suc}
 use Rattle.std.specs.Prelude.{is_some, position, option_and_then}
 use Rattle.std.specs.List.{position_or_len, list_any}

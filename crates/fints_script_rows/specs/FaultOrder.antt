@@ -1,9 +1,9 @@
--- The order in which the kinds of faults are told in one place.
+-- The order in which the kinds of faults in one place are returned.
 use Rattle.std.specs.Prelude.{ℕ, nat_le, if◌then◌else◌}
 use Rattle.fints_script_rows.specs.declared.fault.FaultKind.{FaultKind}
 use Rattle.fints_script_rows.specs.declared.fault.FaultKind.TheVariants as kinds
 
--- how early a kind is told; want of memory is told before all
+-- how early a kind is returned; running out of memory is returned before all
 abbrev pub rank : FaultKind → ℕ
 rank kinds.Memory = 0
 rank kinds.NotToml = 1
@@ -18,6 +18,6 @@ rank kinds.BackwardJump = 9
 rank kinds.BadPattern = 10
 rank kinds.Limit = 11
 
--- of two kinds, the one that is told
+-- of two kinds, the one that is returned
 abbrev pub first_of : FaultKind → FaultKind → FaultKind
 first_of j k = if nat_le (rank j) (rank k) then j else k

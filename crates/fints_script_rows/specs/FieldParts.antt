@@ -1,4 +1,4 @@
--- What an entry that is a field has, and what a row that has a name has. Proofs alone cite these words.
+-- What an entry that is a field has, and what a row that has a name has. Only proofs cite these words.
 use Rattle.std.proofs.Common.{◌≡◌, ◌≢◌, ℕ, Bool, false, codes, cond, List, Some, Ok, Err, refl, ap, sym, ◌∙◌, inl, inr}
 use Rattle.std.specs.Prelude.{option_and_then}
 use Rattle.std.specs.List.{list_any}
@@ -37,7 +37,7 @@ new_is taken text name e =
       ]
     ]
 
--- a row that has a name tells it, and it is not taken
+-- a row that has a name gives it, and it is not taken
 pub row_named : (taken : List ℕ → Bool) (ms : Members) (name : List ℕ) → row_name taken ms ≡ Ok name
     → (name_in (table ms) ≡ Some name) × (taken name ≡ false)
 row_named taken ms name e =

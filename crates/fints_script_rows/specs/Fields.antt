@@ -150,7 +150,7 @@ table_field earlier ms =
     if only_keys (field_keys (class_of ms)) ms then both (row_name (is_taken_field earlier) ms) (class_in ms)
     else Err kinds.UnknownKey
 
--- the name and the class of an entry behind earlier ones
+-- the name and the class of an entry after earlier ones
 abbrev pub field_in : List Data → Data → Part (List ℕ × ClassValue)
 field_in earlier (table ms) = table_field earlier ms
 field_in earlier _ = Err kinds.WrongKind

@@ -1,4 +1,4 @@
--- What parts and rows that have values have in them, and what loops over them give. Proofs alone cite these words.
+-- What parts and rows that have values have in them, and what loops over them give. Only proofs cite these words.
 use Rattle.std.proofs.Common.{◌≡◌, ◌⊎◌, ℕ, zero, suc, ◌+◌, ◌<◌, Bool, true, false, cond, List, [], ◌∷◌, ◌++◌, length, get_or, take, map, All, Option, Some, None, Result, Ok, Err, refl, ap, subst, sym, ◌∙◌, inl, inr, arith}
 use Rattle.std.specs.Prelude.{ok_or, slice_get}
 use Rattle.std.proofs.lemmas.Bool.Decides.{nat_tests}
@@ -76,7 +76,7 @@ chosen i j k a b c x y z = grind (arith, nat_tests)
 pub first_of_three : (i j k : FaultKind) → first_of i (first_of j k) ≡ first_of (first_of i j) k
 first_of_three i j k = chosen i j k (rank i) (rank j) (rank k) refl refl refl
 
--- ---- a part, or want of memory in its place
+-- ---- a part, or that memory ran out in its place
 
 abbrev Near : {X : Type 0} → Part X → Part X → Type 0
 Near p q = (p ≡ Err kinds.Memory) ⊎ (q ≡ p)

@@ -1,4 +1,4 @@
--- What a part of a row gives: its value, or the first kind of fault that stands in it.
+-- What a part of a row gives: its value, or the first kind of fault in it.
 use Rattle.std.specs.Prelude.{◌≡◌, ◌⊎◌, ℕ, nat_lt, Bool, if◌then◌else◌, List, [], ◌∷◌, ◌++◌, length, Option, Some, None, Result, Ok, Err, ok_or}
 use Rattle.toml.specs.Data.{Data, integer, boolean, array, Members, get_member}
 use Rattle.fints_syntax_texts.specs.Document.{item_list, number_between}
@@ -46,7 +46,7 @@ more xs x = both xs x >>= λ p. Ok (p.0 ++ p.1 ∷ [])
 abbrev pub required : List ℕ → Members → Part Data
 required key ms = ok_or (get_member key ms) kinds.Missing
 
--- what stands at a key that may be absent
+-- the value of a key that may be absent
 abbrev pub optional : {X : Type 0} → X → (Data → Part X) → Option Data → Part X
 optional absent part None = Ok absent
 optional absent part (Some d) = part d
@@ -58,7 +58,7 @@ must ms key part = required key ms >>= part
 abbrev pub may : {X : Type 0} → Members → List ℕ → X → (Data → Part X) → Part X
 may ms key absent part = optional absent part (get_member key ms)
 
--- a list, unless it has more entries than so many
+-- a list, unless it has more than `most` entries
 abbrev pub at_most : {X : Type 0} → ℕ → List X → Part (List X)
 at_most most xs = if nat_lt most (length xs) then Err kinds.Limit else Ok xs
 

@@ -22,6 +22,6 @@ text_of_name _ = Err kinds.WrongKind
 abbrev pub name_text : Members → Part (List ℕ)
 name_text ms = required (codes "name") ms >>= text_of_name
 
--- the name of a row, where none may stand that is taken
+-- the name of a row, which must not be taken
 abbrev pub row_name : (List ℕ → Bool) → Members → Part (List ℕ)
 row_name taken ms = name_text ms >>= λ text. new_name (taken text) text

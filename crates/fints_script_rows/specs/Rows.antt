@@ -1,4 +1,4 @@
--- What rows give, one behind the other, and the place of the first fault.
+-- What rows give, one after the other, and the place of the first fault.
 use Rattle.std.specs.Prelude.{◌≡◌, ◌⊎◌, ℕ, ◌+◌, List, [], ◌∷◌, ◌++◌, codes, Result, Ok, Err}
 use Rattle.std.specs.Fmt.{decimal}
 use Rattle.toml.specs.Data.{Data}
@@ -9,7 +9,7 @@ use Rattle.fints_script_rows.specs.declared.fault.Place.{Place}
 use Rattle.fints_script_rows.specs.declared.fault.Place.TheVariants as places
 use Rattle.fints_script_rows.specs.declared.fault.ScriptFault.{ScriptFault}
 
--- how a place is told
+-- how a place is written
 abbrev pub place_text : Place → List ℕ
 place_text places.Top = codes "top"
 place_text (places.Field row) = codes "field " ++ decimal row
@@ -20,7 +20,7 @@ place_text (places.Step row) = codes "step " ++ decimal row
 abbrev pub fault_at : Place → FaultKind → ScriptFault
 fault_at place kind = record { kind = kind; place = place }
 
--- a part that stands at a place
+-- a part at a place
 abbrev pub part_at : {X : Type 0} → Place → Part X → Result X ScriptFault
 part_at place (Ok x) = Ok x
 part_at place (Err kind) = Err (fault_at place kind)
@@ -32,7 +32,7 @@ rows_from place part i [] = Ok []
 rows_from place part i (row ∷ rows) =
     part_at (place (i + 1)) (part i row) >>= λ x. rows_from place part (i + 1) rows >>= λ xs. Ok (x ∷ xs)
 
--- want of memory has no place of its own
+-- running out of memory has no place of its own
 abbrev pub no_memory : ScriptFault
 no_memory = fault_at places.Top kinds.Memory
 

@@ -14,23 +14,23 @@ use thiserror::Error;
 /// What is wrong, in the order in which the kinds are tried in one place.
 #[derive(Clone, Copy, Debug, PartialEq, Eq)]
 pub enum FaultKind {
-    /// A growth was refused; the place is `Top`.
+    /// An allocation was refused; the place is `Top`.
     Memory,
     /// No TOML, or refused by `toml` for another cause than memory; the place is `Top`.
     NotToml,
     /// A key that its place doesn't have.
     UnknownKey,
-    /// A required key is absent, or a sealed step stands in a script without a seal.
+    /// A required key is absent, or a sealed step is in a script without a seal.
     Missing,
     /// A value of another TOML type, a bad name, class or identifier, an empty array as an element,
     /// an empty `segments` or `step`, an account of no or more than 6 texts, or an account field
-    /// where it may not stand.
+    /// where it may not be.
     WrongKind,
     /// A text with a character that is not one byte of ISO 8859-1, or is a control.
     NotLatin1,
     /// After `%` an odd number of hex digits, or another character.
     BadHex,
-    /// A name or a listed value that stands already.
+    /// A name or a listed value that is there already.
     Duplicate,
     /// No field, signer or step has the name.
     NoSuchName,
@@ -82,7 +82,7 @@ impl<T: Drop> From<AllocFailed<T>> for FaultKind {
     }
 }
 
-/// Where a fault stands; rows count from 1.
+/// Where a fault is; rows count from 1.
 #[derive(Clone, Copy, Debug, PartialEq, Eq)]
 pub enum Place {
     Top,

@@ -69,7 +69,7 @@ fn table_field(alloc: Global, earlier: &[Value], table: &Table) -> Result<NamedF
     Ok(NamedField { name, class })
 }
 
-/// The name and the class of an entry of `field` behind earlier ones, or its first fault in the
+/// The name and the class of an entry of `field` after earlier ones, or its first fault in the
 /// order of the kinds.
 pub fn field_in(alloc: Global, earlier: &[Value], entry: &Value) -> Result<NamedField, FaultKind>
     ensures { Gives field_value result (field_in (map view earlier.now) (view entry.now)) }

@@ -1,4 +1,4 @@
-//! Parts of a row: each gives its value or the first kind of fault that stands in it.
+//! Parts of a row: each gives its value or the first kind of fault in it.
 ghost use Rattle.std.specs.Prelude.{◌≡◌, map};
 ghost use Rattle.toml.specs.View.{table_view, view};
 ghost use Rattle.fints_script_rows.specs.FaultOrder.{first_of, rank};
@@ -70,7 +70,7 @@ pub fn required<'a>(table: &'a Table, key: &str) -> Result<&'a Value, FaultKind>
     }
 }
 
-/// The list, unless it has more entries than so many.
+/// The list, unless it has more than `most` entries.
 pub fn at_most<X: Drop>(most: usize, items: Vec<X>) -> Result<Vec<X>, FaultKind>
     ensures { seen (λ v. v.items) result ≡ at_most most items.items }
 {

@@ -5,7 +5,7 @@ ghost use Rattle.fints_script_rows.specs.Rows.{placed};
 use crate::fault::{FaultKind, Place, ScriptFault};
 use fints_syntax_segments::Memory;
 
-/// What stands at a place; want of memory has no place of its own.
+/// The part at a place; running out of memory has no place of its own.
 pub fn placed<X: Drop>(place: Place, part: Result<X, FaultKind>) -> Result<X, ScriptFault>
     ensures { result ≡ placed place part }
 {

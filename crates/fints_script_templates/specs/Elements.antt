@@ -16,7 +16,7 @@ use Rattle.fints_script_templates.specs.declared.template.TemplateItem.TheVarian
 
 -- ---- items
 
--- the field at a place; one of listed accounts stands only where it may (free)
+-- the field at a place; one of listed accounts is allowed only where `free`
 abbrev pub field_at : List NamedField → Bool → Option ℕ → Part TemplateItem
 field_at fields free None = Err kinds.NoSuchName
 field_at fields free (Some place) =
@@ -36,7 +36,7 @@ bin_of (Err bad) = Err kinds.BadHex
 abbrev pub literal_in : List ℕ → Part TemplateItem
 literal_in text = if is_latin1 text then Ok (items.Literal (Text (latin1 text))) else Err kinds.NotLatin1
 
--- hex digits stand in pairs, in either case
+-- hex digits come in pairs, in either case
 abbrev pub reading_in : List NamedField → Bool → Reading → Part TemplateItem
 reading_in fields free (reference name) = reference_in fields free name
 reading_in fields free (hex digits) = bin_of (decode_of digits)
@@ -49,7 +49,7 @@ item_in fields free _ = Err kinds.WrongKind
 
 -- ---- elements
 
--- an array has an item, and an account field doesn't stand there
+-- an array has an item, and no account field
 abbrev pub array_in : List NamedField → List Data → Part (List TemplateItem)
 array_in fields ds = not_empty ds >>= each (item_in fields false)
 

@@ -1,4 +1,4 @@
--- How the string of an item is read. Words of private contracts and proofs alone stand last, under a heading.
+-- How the string of an item is read. Words only for private contracts and proofs come last, under a heading.
 use Rattle.std.specs.Prelude.{ℕ, ◌==◌, if◌then◌else◌, List, [], ◌∷◌}
 use Rattle.fints_script_templates.specs.declared.item_text.ItemText.{ItemText}
 use Rattle.fints_script_templates.specs.declared.item_text.ItemText.TheVariants.{Reference, Hex, Literal}
@@ -21,7 +21,7 @@ abbrev pub reading_of : List ℕ → Reading
 reading_of [] = literal []
 reading_of (c ∷ cs) = reading_from c cs
 
--- ---- of private contracts and proofs alone
+-- ---- of private contracts and proofs only
 
 abbrev pub read_as : ItemText → Reading
 read_as (Reference name) = reference name.now

@@ -24,7 +24,7 @@ segment_keys = codes "kind" ∷ codes "version" ∷ codes "elements" ∷ []
 abbrev pub template_value : List ℕ → ℕ → List (List TemplateItem) → Template
 template_value kind version elements = record { kind = kind; version = version; elements = elements }
 
--- the template that a table gives, key by key, or its first kind of fault; account fields may stand in it
+-- the template that a table gives, key by key, or its first kind of fault; it may have account fields
 unfoldable pub table_segment : List NamedField → Members → Part Template
 table_segment fields ms =
     if only_keys segment_keys ms then

@@ -14,12 +14,12 @@ use Rattle.fints_script_templates.specs.declared.template.TemplateItem.{Template
 use Rattle.fints_script_rows.specs.declared.limits.TheConstants.{MAX_TEMPLATE_ITEMS}
 use Rattle.fints_script_templates.specs.declared.template.Signer.{Signer}
 
--- elements of not too many items; each counts once, since no account field stands there
+-- elements of not too many items; each counts once, since no account field is there
 abbrev pub few_items : List (List TemplateItem) → Part (List (List TemplateItem))
 few_items elements =
     if nat_lt MAX_TEMPLATE_ITEMS (total length elements) then Err kinds.Limit else Ok elements
 
--- the elements of a signer's segment or of the seal, where no account field may stand
+-- the elements of a signer's segment or of the seal, where no account field may be
 abbrev pub frame_in : List NamedField → Data → Part (List (List TemplateItem))
 frame_in fields d = elements_in fields false d >>= few_items
 
@@ -39,7 +39,7 @@ table_signer fields earlier ms =
     <*> must ms (codes "end") (frame_in fields)
     else Err kinds.UnknownKey
 
--- a row of `signer` behind earlier ones
+-- a row of `signer` after earlier ones
 abbrev pub signer_in : List NamedField → List Data → Data → Part Signer
 signer_in fields earlier (table ms) = table_signer fields earlier ms
 signer_in fields earlier _ = Err kinds.WrongKind

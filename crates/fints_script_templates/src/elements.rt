@@ -150,7 +150,7 @@ fn list_in(
     elements
 }
 
-/// The elements of a list, where fields of listed accounts may stand (`free`) or not, or its first
+/// The elements of a list, where fields of listed accounts may be used (`free`) or not, or its first
 /// fault in the order of the kinds.
 pub fn elements_in(
     alloc: Global,

@@ -2,7 +2,7 @@
 ghost use Rattle.std.specs.Prelude.{◌≡◌};
 ghost use Rattle.fints_script_templates.specs.ItemTexts.{reading_of, read_as};
 
-/// The string of an item: the name of a field behind `$`, hex digits behind `%`, or a text.
+/// The string of an item: the name of a field after `$`, hex digits after `%`, or a text.
 #[derive(Clone, Copy)]
 pub enum ItemText<'a> {
     Reference(&'a str),
@@ -10,7 +10,7 @@ pub enum ItemText<'a> {
     Literal(&'a str),
 }
 
-/// What a string of a script stands for.
+/// What a string of a script denotes.
 pub fn item_text(text: &str) -> ItemText<'_>
     ensures { read_as result ≡ reading_of text.now }
 {

@@ -78,7 +78,7 @@ fn table_signer(
     Ok(Signer { name, head, end })
 }
 
-/// The signer of a row behind earlier ones, or its first fault in the order of the kinds.
+/// The signer of a row after earlier ones, or its first fault in the order of the kinds.
 pub fn signer_in(
     alloc: Global,
     fields: &Fields,

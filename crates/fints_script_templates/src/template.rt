@@ -1,4 +1,4 @@
-//! Templates of segments: what stands in a message, with places for fields.
+//! Templates of segments: what a message holds, with places for fields.
 ghost use Rattle.std.specs.Prelude.{◌≡◌, ◌++◌, ◌∷◌, [], map, OnOk, OnErr};
 
 use fints_script_fields::Name;
@@ -7,7 +7,7 @@ use std::alloc::Global;
 use std::marker::Model;
 
 /// An item of a template: a literal, the dialogue id, or a field by its place among the fields of
-/// the script, counted from 0, where the built-in field `dialog` stands.
+/// the script, counted from 0, where the built-in field `dialog` is.
 #[derive(Drop)]
 pub enum TemplateItem {
     Literal(OwnedItem),

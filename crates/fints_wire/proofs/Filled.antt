@@ -1,4 +1,4 @@
--- What stands at the elements of filled segments, and for the fields of a choice.
+-- What the elements of filled segments hold, and what fills the fields of a choice.
 use Rattle.std.proofs.Common.{◌≡◌, ◌≢◌, ℕ, zero, suc, ◌-◌, ◌≤◌, eqb, true, codes, List, [], ◌∷◌, ◌++◌, length, map, get_or, set, Some, refl, ap, sym, subst, ◌∙◌, arith, inl, inr}
 use Rattle.std.specs.Prelude.{slice_get}
 use Rattle.std.specs.List.{zip, list_all}

@@ -37,7 +37,7 @@ module _ (filling : FillingValue) where
   filled-append n m [] ys e = let same : n ≡ m = omega arith in ap (λ (k : ℕ). filled_segments filling k ys) same
   filled-append n m (x ∷ xs) ys e = ap (λ (ss : List OwnedSegment). filled_segment filling n x ∷ ss) (filled-append (n + 1) m xs ys (omega arith))
 
-  -- the filled segments are numbered on, and so is one behind them
+  -- the filled segments are numbered on, and so is one after them
   pub filled_numbered : (n : ℕ) (ts : List Template) (last : OwnedSegment) → last.head.number ≡ n + length ts
       → IsNumbered n (filled_segments filling n ts ++ last ∷ [])
   filled_numbered n [] last e = (omega arith, tt)
@@ -131,7 +131,7 @@ module _ (script : ScriptValue) (step : StepValue) (filling : FillingValue) (sou
       number ∷ [])
   inner_numbered number = filled_numbered filling 2 (templates_of script step) (last_segment (2 + length (templates_of script step)) number) refl
 
-  -- the inner segments stand as they are, or in the envelope
+  -- the inner segments stay as they are, or in the envelope
   pub stand_in : (sealed : Bool) (seal : List (List OwnedItem)) (inner : List OwnedSegment)
       → IsText (segments_text inner) inner
       → (middle_segments sealed seal inner ≡ inner) ⊎ Seals inner (middle_segments sealed seal inner)

@@ -1,4 +1,4 @@
--- Which template stands at a place of a step.
+-- Which template is at a place of a step.
 use Rattle.std.proofs.Common.{◌≡◌, ℕ, ◌+◌, ◌-◌, ◌<◌, List, ◌++◌, length, map, get_or, refl, ap, ◌∙◌, arith}
 use Rattle.std.proofs.lemmas.List.{length-map, length-append, get_or-map, get_or_append_left, get_or-append_right}
 use Rattle.fints_script.specs.Scripts.{ScriptValue}

@@ -12,7 +12,7 @@ use Rattle.fints_wire.specs.Messages.{first_segment, later_segments, message_siz
 pub moves : (out new x y z whole : List ℕ) → x ≡ y ++ z → out ++ x ≡ whole → new ≡ out ++ y → new ++ z ≡ whole
 moves out new x y z whole e so_far n = rw n (append_assoc out y z ∙ ap (λ (w : List ℕ). out ++ w) (sym e) ∙ so_far)
 
--- the segments from a place on are the one there and those behind it
+-- the segments from a place on are the one there and those after it
 pub segments_more : (filling : FillingValue) (i : ℕ) (ts : List Template) (t : Template) → i < length ts
     → segments_text (filled_segments filling (i + 2) (drop i ts)) ≡ written_segment
     (filled_segment filling (i + 2) (get_or ts i t)) ++ segments_text
@@ -23,7 +23,7 @@ segments_more filling i ts t lt =
     ap (λ (x : List Template). segments_text (filled_segments filling (i + 2) x)) (drop_more ts i t lt)
     ∙ ap (λ (n : ℕ). here ++ segments_text (filled_segments filling n (drop (i + 1) ts))) next
 
--- the first segment with the size of the whole, before the text of those behind it
+-- the first segment with the size of the whole, before the text of those after it
 pub message_is : (script : ScriptValue) (step : StepValue) (filling : FillingValue) (number : ℕ)
     (later : List ℕ) → later ≡ segments_text (later_segments script step filling number)
     → written_segment

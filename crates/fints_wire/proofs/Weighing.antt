@@ -1,4 +1,4 @@
--- A message is no longer than the weight of its step, and what stands around it.
+-- A message is no longer than the weight of its step, and what is around it.
 use Rattle.std.proofs.Common.{◌≡◌, ℕ, zero, suc, ◌+◌, ◌^◌, ◌<◌, ◌≤◌, eqb, Bool, true, false, codes, List, [], ◌∷◌, ◌++◌, length, map, get_or, drop, replicate, Option, Some, None, refl, ap, ◌∙◌, sym, arith, inl, inr}
 use Rattle.std.specs.List.{All, slice_get, zip}
 use Rattle.std.specs.Option.{option_map_or}

@@ -1,5 +1,5 @@
 -- Choices: of the longest and of the shortest values, and with one field's value set; and the longest
--- message. Words of private contracts and proofs alone stand last, under a heading.
+-- message. Words only for private contracts and proofs come last, under a heading.
 use Rattle.std.specs.Prelude.{◌≡◌, ◌≤◌, ℕ, List, length, map, set, Some}
 use Rattle.fints_script_fields.specs.Fields.{field_longest, field_shortest}
 use Rattle.fints_script_rows.specs.declared.fields.NamedField.{NamedField}
@@ -37,7 +37,7 @@ NoneIsLonger script n number size =
     → Admits script.fields values → 1 ≤ lower → lower ≤ number
     → length (message_bytes script s lower values) ≤ size
 
--- ---- of private contracts and proofs alone
+-- ---- of private contracts and proofs only
 
 -- the choice in which the field at this place, counted from 0, has this value, and each other field its own
 abbrev pub with_value : List NamedValue → ℕ → NamedField → List ℕ → List NamedValue

@@ -1,4 +1,4 @@
--- Templates with the items of a choice put in. Words of private contracts and proofs alone stand last, under a heading.
+-- Templates with the items of a choice put in. Words only for private contracts and proofs come last, under a heading.
 use Rattle.std.specs.Prelude.{◌≡◌, ℕ, ◌==◌, ◌+◌, ◌-◌, ◌<◌, if◌then◌else◌, codes, List, [], ◌∷◌, map, get_or, zip, length, slice_get, All, None, Some}
 use Rattle.std.specs.List.{flat_map}
 use Rattle.fints_syntax_segments.specs.declared.item.OwnedItem.{OwnedItem}
@@ -12,7 +12,7 @@ use Rattle.fints_script_templates.specs.declared.template.TemplateItem.{Template
 use Rattle.fints_script_templates.specs.declared.template.TemplateItem.TheVariants.{Literal, Dialog, Field}
 use Rattle.fints_script_templates.specs.declared.template.Template.{Template}
 
--- what stands in a message for the dialogue id, and for each field in order
+-- what a message has for the dialogue id, and for each field in order
 pub record FillingValue : Type 0 where
   pub dialog : List OwnedItem
   pub fields : List (List OwnedItem)
@@ -28,7 +28,7 @@ items_of_fields fields values = map value_items (zip fields values)
 abbrev pub dialog_items : List (List OwnedItem) → ℕ → List OwnedItem
 dialog_items fields number = if number == 1 then Text (codes "0") ∷ [] else get_or fields 0 []
 
--- what stands in the message of a number under a choice
+-- what the message of a number is filled with under a choice
 abbrev pub filling_of : List NamedField → List NamedValue → ℕ → FillingValue
 filling_of fields values number =
     record {
@@ -64,9 +64,9 @@ abbrev pub filled_segments : FillingValue → ℕ → List Template → List Own
 filled_segments filling n [] = []
 filled_segments filling n (t ∷ ts) = filled_segment filling n t ∷ filled_segments filling (n + 1) ts
 
--- ---- of private contracts and proofs alone
+-- ---- of private contracts and proofs only
 
--- what is chosen for the field at this place, counted from 0, and the items that stand in messages for it
+-- what is chosen for the field at this place, counted from 0, and the items that messages have for it
 pub record IsPutIn (fields : List NamedField) (values : List NamedValue) (f : ℕ) (field : NamedField)
     : Type 0 where
   pub value : NamedValue

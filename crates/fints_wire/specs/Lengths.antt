@@ -1,4 +1,4 @@
--- How long a message is: each item counts with the byte after it. Private contracts alone cite these words.
+-- How long a message is: each item counts with the byte after it. Only private contracts cite these words.
 use Rattle.fints_syntax_segments.specs.declared.frames.TheConstants.{HNHBK_NUMBER, HNHBK_VERSION, HNHBS_VERSION, HNVSD_NUMBER, HNVSD_VERSION, HNVSK_NUMBER, HNVSK_VERSION}
 use Rattle.std.specs.Prelude.{ℕ, ◌+◌, ◌==◌, if◌then◌else◌, codes, List, [], ◌∷◌, length, map, get_or, Bool, true, false}
 use Rattle.std.specs.Fmt.{decimal}
@@ -76,7 +76,7 @@ middle_len true seal inner =
     head_len (codes "HNVSK") HNVSK_NUMBER HNVSK_VERSION + seal + head_len (codes "HNVSD") HNVSD_NUMBER
     HNVSD_VERSION + binary_size inner
 
--- what stands between the first segment and the last
+-- what comes between the first segment and the last
 abbrev pub between_len : ScriptValue → StepValue → Sizes → ℕ
 between_len script step sizes =
     middle_len step.sealed (elements_len sizes (seal_of script))

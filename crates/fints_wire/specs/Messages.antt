@@ -1,4 +1,4 @@
--- The message of a step. Words of private contracts and proofs alone stand last, under a heading.
+-- The message of a step. Words only for private contracts and proofs come last, under a heading.
 use Rattle.std.specs.Prelude.{ℕ, ◌≡◌, ◌+◌, ◌-◌, codes, List, [], ◌∷◌, ◌++◌, length, map, get_or, replicate, slice_get, Bool, true, false, Some, None}
 use Rattle.std.specs.List.{flat_map}
 use Rattle.std.specs.Fmt.{decimal}
@@ -87,7 +87,7 @@ between_segments script step filling =
     middle_segments step.sealed (filled_elements filling (seal_of script))
     (inner_segments script step filling)
 
--- the segments behind HNHBK; the last has the number after the last inner one
+-- the segments after HNHBK; the last has the number after the last inner one
 abbrev pub later_segments : ScriptValue → StepValue → FillingValue → ℕ → List OwnedSegment
 later_segments script step filling number =
     between_segments script step filling
@@ -120,13 +120,13 @@ message_bytes script step number values = segments_text (message_segments script
 abbrev pub OfStep : List StepValue → ℕ → (StepValue → Type 0) → Type 0
 OfStep steps n so = (s : StepValue) → slice_get steps (n - 1) ≡ Some s → so s
 
--- ---- of private contracts and proofs alone
+-- ---- of private contracts and proofs only
 
 -- the text of the envelope round inner segments of this text
 abbrev pub envelope_text : List (List OwnedItem) → List ℕ → List ℕ
 envelope_text seal inner = segments_text (envelope_round seal inner)
 
--- the text of what follows the first segment behind that segment, which has the size of the whole; whatever the size, it has 12 digits
+-- the text of the first segment, with the size of the whole, and then what follows it; whatever the size, it has 12 digits
 abbrev pub text_with_first : List OwnedItem → ℕ → List ℕ → List ℕ
 text_with_first dialog number later =
     written_segment

@@ -14,7 +14,7 @@ use Rattle.fints_wire.specs.Messages.{between_segments, end_template, first_segm
 use Rattle.fints_syntax_segments.specs.declared.limits.TheConstants.{MAX_BYTES}
 
 -- what the message of a step, of this number, holds under a choice: the step's templates with the choice put
--- in, numbered on behind HNHBK and the signers' HNSHK, and behind them the signers' HNSHA
+-- in, numbered on after HNHBK and the signers' HNSHK, and after them the signers' HNSHA
 abbrev pub message_view : ScriptValue → StepValue → ℕ → List NamedValue → MessageView
 message_view script step number values =
     let filling : FillingValue = filling_of script.fields values number in

@@ -17,7 +17,7 @@ use fints_syntax::{Elements, Memory, OwnedSegment, write_segment};
 use std::alloc::Global;
 
 /// The greatest number of a message that is built. Runs send none above 99 times the most steps of a
-/// script, and the weight of a step leaves room for so many digits.
+/// script, and the weight of a step allows for this many digits.
 pub const MAX_NUMBER: u32 = 99_999;
 
 fn write_part(

@@ -1,4 +1,4 @@
-//! What stands in a message for the dialogue id and for the fields.
+//! What a message has for the dialogue id and for the fields.
 ghost use Rattle.std.specs.Prelude.{◌≡◌, ◌++◌, ◌∷◌, [], get_or, map, length, IfOk, OnOk};
 ghost use Rattle.fints_syntax_segments.specs.declared.item.OwnedItem.TheVariants.{Text};
 ghost use Rattle.fints_script_fields.specs.Fields.{field_items};
@@ -11,7 +11,7 @@ use fints_syntax::{Bytes, Elements, Memory, OwnedItem};
 use std::alloc::Global;
 use std::marker::Model;
 
-/// What stands in a message for the dialogue id, and for each field; a contract sees the lists.
+/// What a message has for the dialogue id, and for each field; a contract sees the lists.
 #[derive(Drop)]
 pub struct Filling {
     dialog: Vec<OwnedItem>,
@@ -60,7 +60,7 @@ fn account_items(
     Ok(Vec::new(alloc))
 }
 
-// The items that stand for a value of the field.
+// The items that a value of the field has.
 fn value_items(alloc: Global, field: &Field, value: &[u8]) -> Result<Vec<OwnedItem>, Memory>
     ensures { IfOk result (λ v. v.items ≡ field_items field.now value.now) }
 {
@@ -102,7 +102,7 @@ fn dialog_items(
 }
 
 impl Filling {
-    /// What stands in the message of this number for the values.
+    /// What the message of this number is filled with for the values.
     pub fn new(
         alloc: Global,
         fields: &[NamedField],

@@ -12,7 +12,7 @@ pub fn messages_are_read()
     ensures { MessagesAreRead }
 {}
 
-/// The body of a step's message, place by place: the templates filled, numbered on behind HNHBK and
+/// The body of a step's message, place by place: the templates filled, numbered on after HNHBK and
 /// the signers' HNSHK; and as many HNSHA as signers.
 pub fn bodies_are_templates()
     ensures segments { BodyIsTemplates }
@@ -26,14 +26,14 @@ pub fn extremes_are_admitted()
     ensures shortest { (fields : List NamedField) → Admits fields (shortest_choice fields) }
 {}
 
-/// What stands at an element of a filled segment, from element 2 on: the items of the template's
-/// element, of which the literal ones hang on no choice and no number.
+/// What an element of a filled segment has, from element 2 on: the items of the template's
+/// element. The literal ones depend on no choice and no number.
 pub fn elements_are_filled()
     ensures values { ElementsAreFilled }
     ensures literal { LiteralsStand }
 {}
 
-/// For each field stand the items of the value that is chosen for it.
+/// Each field is filled with the items of the value that is chosen for it.
 pub fn fields_are_put_in()
     ensures { FieldsArePutIn }
 {}
@@ -43,7 +43,7 @@ pub fn accounts_are_put_in()
     ensures { AccountsArePutIn }
 {}
 
-/// The dialogue id stands as one item, which is never empty: `0` in message 1, and afterwards 1 to
+/// The dialogue id is one item, which is never empty: `0` in message 1, and afterwards 1 to
 /// 30 bytes.
 pub fn dialog_is_one_item()
     ensures { DialogIsOneItem }

@@ -67,7 +67,7 @@ pub struct FewParts<'a> {
     pub ghost templates: { length step.now.templates ≤ 100 },
 }
 
-/// How many segments stand between the first and the last, before they are sealed.
+/// How many segments come between the first and the last, before they are sealed.
 pub fn part_count(few: FewParts<'_>) -> usize
     ensures few { result ≤ 118 }
     ensures count { (script : ScriptValue) → result ≡ length (templates_of script few.entry.step.now) }

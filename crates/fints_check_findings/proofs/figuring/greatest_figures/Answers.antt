@@ -11,7 +11,7 @@ use Rattle.fints_script.specs.Numbered.{numbered, numbered_at}
 use Rattle.fints_check_findings.proofs.figuring.greatest_figures.Goals as goal
 use Rattle.fints_check_findings.proofs.figuring.greatest_figures.Goals.{in-None, in-Some}
 
--- what grants nothing: figures hang on no bank
+-- what grants nothing: figures depend on no bank
 nothing : Granted
 nothing = record {
   rows = record {

@@ -3,7 +3,7 @@ use Rattle.std.proofs.lemmas.Option.{slice_get-get_or}
 use Rattle.fints_script.specs.Numbered.{numbered, numbered_of, numbered_within}
 use Rattle.fints_check_findings.proofs.releasing.holder_of.Goals as goal
 
--- what stands beside a step
+-- what is beside a step
 cell_of : (holders : List (Option ℕ)) (s : ℕ) (cell : Option ℕ) → 1 ≤ s → s ≤ length holders
     → get_or holders (s - 1) None ≡ cell → numbered holders s ≡ Some cell
 cell_of holders s cell low high is =

@@ -6,7 +6,7 @@ use Rattle.fints_script.specs.Steps.{StepValue}
 use Rattle.fints_check_findings.specs.Releases.{IsUnreleasedAt, submits}
 use Rattle.fints_check_findings.proofs.releasing.is_never_held.Goals as goal
 
--- what an answer that may be none tells
+-- what an answer that may be none says
 some_of : (P : Type 0) (Q : ℕ → Type 0) (o : Option ℕ) → MatchOption o P Q → is_some o ≡ true → (s : ℕ) × Q s
 some_of P Q None told h = absurd cc
 some_of P Q (Some s) told h = (s, told)

@@ -25,7 +25,7 @@ use Rattle.fints_script.proofs.LawLemmas.{sound_of}
 use Rattle.fints_check_findings.proofs.report.check.Goals as goal
 use Rattle.fints_check_findings.proofs.report.check.Goals.{in-None, in-Some+in_ok-search-in-Some}
 
--- a number that stands at a place is the greatest of the step behind it
+-- a number at a place is the greatest of the step after it
 peak_at : (steps : List StepValue) (numbers : List (Option ℕ)) (i number : ℕ) (cell : Option ℕ)
     → AreGreatest steps numbers → i < length steps → cell ≡ get_or numbers i cell → cell ≡ Some number
     → IsGreatestAt steps (i + 1) number

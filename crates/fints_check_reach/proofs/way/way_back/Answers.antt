@@ -6,7 +6,7 @@ use Rattle.fints_check_reach.specs.Walking.{HasWay, IsWayBack}
 use Rattle.fints_check_reach.proofs.WayLemmas.{back_more, source_before, source_way, way_high}
 use Rattle.fints_check_reach.proofs.way.way_back.Goals as goal
 
--- the source that stands beside a step that has a way
+-- the source beside a step that has a way
 source_of : (sources : List (Option ℕ)) (n s : ℕ) → HasWay sources n → get_or sources (n - 1) None ≡ Some s
     → Has sources n s
 source_of sources n s way is =

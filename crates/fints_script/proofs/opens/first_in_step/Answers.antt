@@ -10,7 +10,7 @@ use Rattle.fints_script.specs.declared.opens.PlanFault.{PlanFault}
 use Rattle.fints_script.proofs.PlanLemmas.{segment_closed, segment_open}
 use Rattle.fints_script.proofs.opens.first_in_step.Goals as goal
 
--- the faults of a step are those of its segments behind its signers'
+-- the faults of a step are those of its segments after its signers'
 of_step : (fields : List NamedField) (orders : List OrderRow) (n : ℕ) (step : StepValue) (signers : List ℕ)
     (templates : List Template) → signers ≡ step.signers → templates ≡ step.templates
     → faults_in_step fields orders n step ≡ faults_in_segments fields orders n (length signers + 2) templates
