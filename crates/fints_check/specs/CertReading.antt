@@ -1,4 +1,4 @@
--- What the reader of certificates knows on its way through a text. Only private contracts cite these words.
+-- What the reader of certificates knows on its way through a text. Only private contracts use these words.
 use Rattle.std.specs.Prelude.{◌≢◌, ◌≤◌, List, length}
 use Rattle.std.specs.List.{All, AllPairs}
 use Rattle.fints_script_fields.specs.NameSets.{HoldsNames}

@@ -1,4 +1,4 @@
--- What `verify` knows on its way. Only private contracts cite these words.
+-- What `verify` knows on its way. Only private contracts use these words.
 use Rattle.std.specs.Prelude.{ℕ, ◌≡◌, ◌↔◌, ◌≤◌, Bool, true, Option, Some, List, length, IfSome, IsNone}
 use Rattle.fints_script_cases.specs.Answers.{IsOpenTo}
 use Rattle.fints_script_cases.specs.declared.answers.Target.TheVariants as targets

@@ -1,4 +1,4 @@
--- What the message of a step can break by what it holds. Words only for private contracts and proofs come last, under a heading.
+-- What the message of a step can break by what it holds. What only private contracts and proofs use comes last, under a heading.
 use Rattle.std.specs.Prelude.{ℕ, List}
 use Rattle.fints_script_cases.specs.declared.values.NamedValue.{NamedValue}
 use Rattle.fints_rules.specs.Breaks.{BreaksByContent}

@@ -1,5 +1,5 @@
 -- Which values a case has: the worst ones for a rule that a TAN breaks, and else the least ones, with at most
--- one account set. Only private contracts cite these words.
+-- one account set. Only private contracts use these words.
 use Rattle.std.specs.Prelude.{ℕ, ◌≡◌, ◌<◌, ◌⊎◌, ◌+◌, Bool, true, false, List, [], ◌∷◌, length, Option, Some, None, Any, MatchOption}
 use Rattle.std.specs.List.{slice_get}
 use Rattle.fints_script_fields.specs.Fields.{field_accounts, field_shortest}

@@ -1,4 +1,4 @@
--- What the last message of a run shows. Only private contracts cite these words.
+-- What the last message of a run shows. Only private contracts use these words.
 use Rattle.std.specs.Prelude.{◌≡◌}
 use Rattle.fints_rules_permissions.specs.Permits.{Granted}
 use Rattle.fints_wire.specs.Runs.{Before}

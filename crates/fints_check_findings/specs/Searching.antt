@@ -1,4 +1,4 @@
--- What a search for findings returns on its way, and its progress. Only private contracts cite these words.
+-- What a search for findings returns on its way, and its progress. Only private contracts use these words.
 use Rattle.std.specs.Prelude.{ℕ, ◌≡◌, ◌≤◌, ◌<◌, ◌⊎◌, ◌↔◌, List, length, AllPairs, Contains, Some, slice_get}
 use Rattle.fints_script_cases.specs.declared.values.NamedValue.{NamedValue}
 use Rattle.fints_rules.specs.Breaks.{Breaks}

@@ -1,4 +1,4 @@
--- The facts of a step's message that follow from the step, and the rules over them. Only private contracts cite these words.
+-- The facts of a step's message that follow from the step, and the rules over them. Only private contracts use these words.
 use Rattle.std.specs.Prelude.{codes, ◌≡◌, ◌⊎◌, ◌↔◌, ℕ, ◌+◌, Bool, true, false, List, [], length, slice_get, Option, None, Some, Any, IsTrue}
 use Rattle.std.specs.List.{list_any}
 use Rattle.std.specs.Set.{distinct_count}

@@ -1,4 +1,4 @@
--- Which signers have a TAN under every choice, and which under some. Only private contracts cite these words.
+-- Which signers have a TAN under every choice, and which under some. Only private contracts use these words.
 use Rattle.std.specs.Prelude.{◌≡◌, ◌≢◌, ℕ, Bool, true, false, List, [], get_or, slice_get, Option, Some, None, Any}
 use Rattle.fints_syntax_segments.specs.Segment.{item_value}
 use Rattle.fints_script_fields.specs.Fields.{field_domain, field_longest, field_written}

@@ -1,4 +1,4 @@
--- What the pass over the steps does, step by step and branch by branch. Only private contracts cite these words. Branches count from 0 here.
+-- What the pass over the steps does, step by step and branch by branch. Only private contracts use these words. Branches count from 0 here.
 use Rattle.std.specs.Prelude.{ℕ, ◌≡◌, ◌↔◌, ◌≤◌, ◌+◌, ◌-◌, ◌⊎◌, Bool, true, Option, Some, List, length, slice_get}
 use Rattle.fints_script_cases.specs.Answers.{IsOpen, target_of}
 use Rattle.fints_script_cases.specs.declared.answers.Target.{Target}

@@ -1,4 +1,4 @@
--- What is found on the way to a step, back and forth. Only private contracts cite these words.
+-- What is found on the way to a step, back and forth. Only private contracts use these words.
 use Rattle.std.specs.Prelude.{ℕ, ◌≡◌, ◌<◌, ◌≤◌, ◌+◌, Option, List, [], ◌∷◌, length}
 use Rattle.fints_script_cases.specs.declared.answers.Target.{Target}
 use Rattle.fints_script.specs.Steps.{StepValue}

@@ -1,4 +1,4 @@
--- The items of a recorded element 2. Only private contracts cite this file.
+-- The items of a recorded element 2. Only private contracts use this file.
 use Rattle.std.specs.Prelude.{◌≡◌, ◌≤◌, List, ℕ, length, Option, Some, None, All, Vec}
 use Rattle.std.specs.declared.alloc.Global.{Global}
 use Rattle.fints_syntax_segments.specs.declared.item.OwnedSegment.{OwnedSegment}

@@ -1,4 +1,4 @@
--- A walk over the rows of HIUPD. Only private contracts cite this file.
+-- A walk over the rows of HIUPD. Only private contracts use this file.
 use Rattle.std.specs.Prelude.{◌≡◌, ◌≢◌, ◌-◌, ◌⊎◌, ℕ, Bool, true, List, ◌∷◌, length, take, Option, Some, None, Any, Vec}
 use Rattle.std.specs.BTreeSet.{contains}
 use Rattle.std.specs.Cmp.Lexicographic.{slice_cmp}

@@ -1,6 +1,6 @@
 -- The picture of a script's ways in Graphviz's DOT: a line for each step, and after it one for each of its
 -- branches, its default among them. Names, kinds and patterns hold neither `"` nor `\`, so they are between
--- quotes as they are; `\n` there begins a line of a label. Words of private contracts and proofs only come
+-- quotes as they are; `\n` there begins a line of a label. What only private contracts and proofs use comes
 -- last, under a heading.
 use Rattle.std.specs.Prelude.{◌≡◌, ◌==◌, ℕ, ◌+◌, ◌-◌, Bool, List, [], ◌∷◌, ◌++◌, length, codes, Option, Some, None, slice_get}
 use Rattle.std.specs.List.{filter, flat_map, range_with_len}

@@ -1,4 +1,4 @@
--- What a capture that is read while it comes holds. Words of private contracts and proofs only come last, under a heading.
+-- What a capture that is read while it comes holds. What only private contracts and proofs use comes last, under a heading.
 use Rattle.std.specs.Prelude.{◌≡◌, ℕ, Bool, true, false, List, [], ◌++◌, Option, None, Some}
 use Rattle.fints_params.specs.Pieces.{Received, IsPieceFault}
 use Rattle.fints_params.specs.declared.fault.ParamFault.{ParamFault}

@@ -1,4 +1,4 @@
--- How far cases are written, and when none is. Only private contracts cite these words.
+-- How far cases are written, and when none is. Only private contracts use these words.
 use Rattle.std.specs.Prelude.{◌≡◌, ℕ, List, ◌++◌, Option, Some, None}
 use Rattle.fints_check_findings.specs.Findings.{Shows}
 use Rattle.fints_check_findings.specs.declared.finding.Finding.{Finding}

@@ -1,5 +1,5 @@
 -- The text of `run`: the messages that a client sends under a case, each after a line about it, with LF
--- at the ends. Words of private contracts and proofs only come last, under a heading.
+-- at the ends. What only private contracts and proofs use comes last, under a heading.
 use Rattle.std.specs.Prelude.{◌≡◌, ℕ, List, ◌++◌, length, codes, Contains, Option, None, Some}
 use Rattle.std.specs.List.{flat_map, All}
 use Rattle.std.specs.Fmt.{decimal}

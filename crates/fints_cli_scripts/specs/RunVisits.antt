@@ -1,4 +1,4 @@
--- The text of a run as its messages are made, visit by visit. Only private contracts cite this file.
+-- The text of a run as its messages are made, visit by visit. Only private contracts use this file.
 use Rattle.std.specs.Prelude.{◌≡◌, ℕ, List, Contains, Option, None, Some}
 use Rattle.std.specs.List.{All}
 use Rattle.fints_script_cases.specs.declared.values.NamedValue.{NamedValue}

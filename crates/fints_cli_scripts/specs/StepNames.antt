@@ -1,4 +1,4 @@
--- The names of a script's steps; steps count from 1. Words of private contracts and proofs only come last, under a heading.
+-- The names of a script's steps; steps count from 1. What only private contracts and proofs use comes last, under a heading.
 use Rattle.std.specs.Prelude.{◌≤◌, ℕ, List, [], length}
 use Rattle.std.specs.Option.{option_map_or}
 use Rattle.fints_script.specs.Numbered.{numbered}

@@ -1,4 +1,4 @@
--- What is said of a script, and why nothing is. Words of private contracts and proofs only come last, under
+-- What is said of a script, and why nothing is. What only private contracts and proofs use comes last, under
 -- a heading.
 use Rattle.std.specs.Prelude.{◌≡◌, ℕ, List}
 use Rattle.fints_params.specs.Parameters.{Rows}

@@ -1,4 +1,4 @@
--- What `verify` prints of a certificate, and why nothing is. Words of private contracts and proofs only come last, under a heading.
+-- What `verify` prints of a certificate, and why nothing is. What only private contracts and proofs use comes last, under a heading.
 use Rattle.std.specs.Prelude.{◌≡◌, ◌↔◌, ℕ, Bool, true, false, IsTrue, List, codes}
 use Rattle.fints_check.specs.Certificates.{IsClosedCertificate, KeepsPromise}
 use Rattle.fints_check_findings.specs.Findings.{EachIsPermitted}

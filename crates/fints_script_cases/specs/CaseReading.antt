@@ -1,4 +1,4 @@
--- What the reader of cases knows on its way through a text. Only private contracts cite these words.
+-- What the reader of cases knows on its way through a text. Only private contracts use these words.
 use Rattle.std.specs.Prelude.{ℕ, ◌≡◌, ◌≢◌, ◌<◌, ◌≤◌, List, [], ◌∷◌, ◌++◌, codes, length, map, slice_get}
 use Rattle.std.specs.Option.{ForSome}
 use Rattle.std.specs.List.{All, AllPairs}

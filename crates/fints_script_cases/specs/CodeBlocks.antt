@@ -1,4 +1,4 @@
--- Blocks of codes that a pattern treats alike, and in which no code opens a branch. Only private contracts cite these words.
+-- Blocks of codes that a pattern treats alike, and in which no code opens a branch. Only private contracts use these words.
 use Rattle.std.specs.Prelude.{ℕ, zero, suc, ◌+◌, ◌*◌, ◌/◌, ◌≡◌, ◌<◌, ◌≤◌, ◌==◌, ◌&&◌, Bool, IsFalse, List, get_or, slice_get, take, ◌-◌}
 use Rattle.std.specs.Option.{ForSome}
 use Rattle.std.specs.List.{list_all, zip}

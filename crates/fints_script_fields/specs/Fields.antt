@@ -1,4 +1,4 @@
--- What a field admits and how it is written, by its class. Words only for private contracts and proofs come last, under a heading.
+-- What a field admits and how it is written, by its class. What only private contracts and proofs use comes last, under a heading.
 use Rattle.std.specs.Prelude.{◌≡◌, ℕ, List, [], length, map, replicate, slice_get, Some}
 use Rattle.fints_syntax_segments.specs.declared.item.OwnedItem.{OwnedItem}
 use Rattle.fints_script_fields.specs.Classes.{Counts, IsByte, IsCharacter, as_binary, as_text, longest_character, shortest_character}

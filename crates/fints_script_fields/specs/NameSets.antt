@@ -1,4 +1,4 @@
--- Ordered sets of names, in which readers look up the names so far. Only private contracts cite these words.
+-- Ordered sets of names, in which readers look up the names so far. Only private contracts use these words.
 use Rattle.std.specs.Prelude.{ℕ, ◌≡◌, List}
 use Rattle.std.specs.BTreeSet.{BTreeSet, contains}
 use Rattle.std.specs.Cmp.Lexicographic.{slice_cmp}

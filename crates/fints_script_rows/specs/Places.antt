@@ -1,4 +1,4 @@
--- The places of a list's items that have a name. Words only for private contracts and proofs come last, under a heading.
+-- The places of a list's items that have a name. What only private contracts and proofs use comes last, under a heading.
 use Rattle.std.specs.Prelude.{◌≡◌, ℕ, Bool, List, position, Option, Some, None, is_some, if◌then◌else◌}
 use Rattle.std.specs.Borrow.{Bor}
 use Rattle.std.specs.HashMap.{HashMap}

@@ -1,4 +1,4 @@
--- How the string of an item is read. Words only for private contracts and proofs come last, under a heading.
+-- How the string of an item is read. What only private contracts and proofs use comes last, under a heading.
 use Rattle.std.specs.Prelude.{ℕ, ◌==◌, if◌then◌else◌, List, [], ◌∷◌}
 use Rattle.fints_script_templates.specs.declared.item_text.ItemText.{ItemText}
 use Rattle.fints_script_templates.specs.declared.item_text.ItemText.TheVariants.{Reference, Hex, Literal}

@@ -1,5 +1,5 @@
 -- Choices: of the longest and of the shortest values, and with one field's value set; and the longest
--- message. Words only for private contracts and proofs come last, under a heading.
+-- message. What only private contracts and proofs use comes last, under a heading.
 use Rattle.std.specs.Prelude.{◌≡◌, ◌≤◌, ℕ, List, length, map, set, Some}
 use Rattle.fints_script_fields.specs.Fields.{field_longest, field_shortest}
 use Rattle.fints_script_rows.specs.declared.fields.NamedField.{NamedField}

@@ -1,4 +1,4 @@
--- Templates with the items of a choice put in. Words only for private contracts and proofs come last, under a heading.
+-- Templates with the items of a choice put in. What only private contracts and proofs use comes last, under a heading.
 use Rattle.std.specs.Prelude.{◌≡◌, ℕ, ◌==◌, ◌+◌, ◌-◌, ◌<◌, if◌then◌else◌, codes, List, [], ◌∷◌, map, get_or, zip, length, slice_get, All, None, Some}
 use Rattle.std.specs.List.{flat_map}
 use Rattle.fints_syntax_segments.specs.declared.item.OwnedItem.{OwnedItem}

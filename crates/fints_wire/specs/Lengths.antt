@@ -1,4 +1,4 @@
--- How long a message is: each item counts with the byte after it. Only private contracts cite these words.
+-- How long a message is: each item counts with the byte after it. Only private contracts use these words.
 use Rattle.fints_syntax_segments.specs.declared.frames.TheConstants.{HNHBK_NUMBER, HNHBK_VERSION, HNHBS_VERSION, HNVSD_NUMBER, HNVSD_VERSION, HNVSK_NUMBER, HNVSK_VERSION}
 use Rattle.std.specs.Prelude.{ℕ, ◌+◌, ◌==◌, if◌then◌else◌, codes, List, [], ◌∷◌, length, map, get_or, Bool, true, false}
 use Rattle.std.specs.Fmt.{decimal}

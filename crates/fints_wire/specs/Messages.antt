@@ -1,4 +1,4 @@
--- The message of a step. Words only for private contracts and proofs come last, under a heading.
+-- The message of a step. What only private contracts and proofs use comes last, under a heading.
 use Rattle.std.specs.Prelude.{ℕ, ◌≡◌, ◌+◌, ◌-◌, codes, List, [], ◌∷◌, ◌++◌, length, map, get_or, replicate, slice_get, Bool, true, false, Some, None}
 use Rattle.std.specs.List.{flat_map}
 use Rattle.std.specs.Fmt.{decimal}
