@@ -16,7 +16,7 @@ import sys
 
 TOP = pathlib.Path(__file__).resolve().parent.parent
 
-# A few uses of a word in 10,000 words of comments are right, as of a byte that stands for itself.
+# A few uses of a word in 10,000 words of comments are right.
 LEAST_IN_COMMENTS = 2
 # For each word its pattern, how often the pages may use it, and what to write in its place.
 WORDS = {

@@ -147,8 +147,8 @@ has_secret script = list_any is_secret_field script.fields
 -- ---- drafts
 
 -- the texts of a script and of a case that replay the exchanges of a recording. The script has no secret, and lists
--- accounts by the order table and the parameters in the recording; its text is printed of it, with the numbers
--- in its comments; and whether the case has a secret
+-- accounts by the order table and the parameters in the recording. Its text is `draft_text` of it, with some numbers
+-- in the comments. And whether the case has a secret
 pub record IsDraft (orders : List OrderRow) (recording exchanges : List Exchange)
     (script_text case_text : List ℕ) (secret : Bool)
     : Type 0 where
