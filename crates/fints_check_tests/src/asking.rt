@@ -24,16 +24,22 @@ pub enum Said<'a> {
     Confirmed(Finding, &'a [u8], bool),
 }
 
+// A plan, and the permissions of a bank by the same order table.
+#[derive(Clone, Copy)]
+struct Asked<'a> {
+    permissions: &'a Permissions<'a>,
+    plan: &'a Plan<'a>,
+    ghost same_orders: { permissions.now.orders ≡ plan.now.orders },
+}
+
 fn is_report(
     alloc: Global,
-    permissions: &Permissions<'_>,
-    plan: &Plan<'_>,
+    asked: Asked<'_>,
     last: Reached,
     findings: &[Finding],
     visits: u64,
-) -> Result<bool, Fail>
-    requires { permissions.now.orders ≡ plan.now.orders }
-{
+) -> Result<bool, Fail> {
+    let Asked { permissions, plan } = asked;
     let count = plan.step_count();
     if count == 0 {
         return Ok(false);
@@ -46,15 +52,8 @@ fn is_report(
     )
 }
 
-fn is_first_case(
-    alloc: Global,
-    permissions: &Permissions<'_>,
-    plan: &Plan<'_>,
-    wanted: &[u8],
-) -> Result<bool, Fail>
-    requires { permissions.now.orders ≡ plan.now.orders }
-{
-    let report = check(alloc, permissions, plan)?;
+fn is_first_case(alloc: Global, asked: Asked<'_>, wanted: &[u8]) -> Result<bool, Fail> {
+    let report = check(alloc, asked.permissions, asked.plan)?;
     if report.findings().is_empty() {
         return Ok(false);
     }
@@ -69,74 +68,47 @@ fn is_first_case(
 
 fn is_closed(
     alloc: Global,
-    permissions: &Permissions<'_>,
-    plan: &Plan<'_>,
+    asked: Asked<'_>,
     certificate: &Certificate,
     wanted: Option<&[u8]>,
-) -> Result<bool, Fail>
-    requires { permissions.now.orders ≡ plan.now.orders }
-{
+) -> Result<bool, Fail> {
     let text = certificate.write(alloc)?;
-    Ok(wanted == Some(text.as_slice()) && verify(permissions, plan, certificate))
+    Ok(wanted == Some(text.as_slice()) && verify(asked.permissions, asked.plan, certificate))
 }
 
-fn is_certified(
-    alloc: Global,
-    permissions: &Permissions<'_>,
-    plan: &Plan<'_>,
-    wanted: Option<&[u8]>,
-) -> Result<bool, Fail>
-    requires { permissions.now.orders ≡ plan.now.orders }
-{
-    let report = check(alloc, permissions, plan)?;
+fn is_certified(alloc: Global, asked: Asked<'_>, wanted: Option<&[u8]>) -> Result<bool, Fail> {
+    let report = check(alloc, asked.permissions, asked.plan)?;
     match report.certificate(alloc)? {
         None => Ok(wanted.is_none()),
-        Some(certificate) => is_closed(alloc, permissions, plan, &certificate, wanted),
+        Some(certificate) => is_closed(alloc, asked, &certificate, wanted),
     }
 }
 
 fn is_confirmed(
     alloc: Global,
-    permissions: &Permissions<'_>,
-    plan: &Plan<'_>,
+    asked: Asked<'_>,
     finding: &Finding,
     case: &[u8],
 ) -> Result<bool, Fail> {
     let case = Case::read(alloc, case)?;
-    Ok(confirm(alloc, permissions, plan, finding, &case)?)
+    Ok(confirm(alloc, asked.permissions, asked.plan, finding, &case)?)
 }
 
-fn is_true(
-    alloc: Global,
-    permissions: &Permissions<'_>,
-    plan: &Plan<'_>,
-    said: Said<'_>,
-) -> Result<bool, Fail>
-    requires { permissions.now.orders ≡ plan.now.orders }
-{
+fn is_true(alloc: Global, asked: Asked<'_>, said: Said<'_>) -> Result<bool, Fail> {
     match said {
-        Said::Report(last, findings, visits) => {
-            is_report(alloc, permissions, plan, last, findings, visits)
-        }
-        Said::Case(case) => is_first_case(alloc, permissions, plan, case),
-        Said::Certificate(wanted) => is_certified(alloc, permissions, plan, wanted),
+        Said::Report(last, findings, visits) => is_report(alloc, asked, last, findings, visits),
+        Said::Case(case) => is_first_case(alloc, asked, case),
+        Said::Certificate(wanted) => is_certified(alloc, asked, wanted),
         Said::Confirmed(finding, case, wanted) => {
-            Ok(is_confirmed(alloc, permissions, plan, &finding, case)? == wanted)
+            Ok(is_confirmed(alloc, asked, &finding, case)? == wanted)
         }
     }
 }
 
 // The first of these that is not true of the plan.
-fn untrue_of(
-    alloc: Global,
-    permissions: &Permissions<'_>,
-    plan: &Plan<'_>,
-    said: &[Said<'_>],
-) -> Result<Option<usize>, Fail>
-    requires { permissions.now.orders ≡ plan.now.orders }
-{
+fn untrue_of(alloc: Global, asked: Asked<'_>, said: &[Said<'_>]) -> Result<Option<usize>, Fail> {
     for (at, one) in said.iter().enumerate() {
-        if !is_true(alloc, permissions, plan, *one)? {
+        if !is_true(alloc, asked, *one)? {
             return Ok(Some(at));
         }
     }
@@ -152,7 +124,11 @@ fn untrue_by(
     let orders = OrderTable::read(alloc, T)?;
     let permissions = Permissions::build(alloc, params, &orders)?;
     let plan = script.plan(&orders)?;
-    untrue_of(alloc, &permissions, &plan, said)
+    let asked = Asked {
+        permissions: &permissions,
+        plan: &plan,
+    };
+    untrue_of(alloc, asked, said)
 }
 
 /// The first of these that is not true of a script by a capture.

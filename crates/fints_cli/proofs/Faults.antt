@@ -2,7 +2,7 @@
 use Rattle.std.proofs.Common.{◌≡◌, ◌∙◌, ◌≤◌, ◌==◌, arith, Bool, true, false, ℕ, List, [], ◌∷◌, ◌++◌, length, Option, refl, ap, sym, subst, inl, inr}
 use Rattle.std.proofs.lemmas.Bool.{false≢true}
 use Rattle.std.proofs.lemmas.Bool.Decides.{nat_tests}
-use Rattle.fints_cli_files.specs.Streams.{one_more}
+use Rattle.fints_cli_files.specs.Streams.{ReadCounts, one_more}
 use Rattle.fints_cli.proofs.Writes.{gets-more, gets-then-cut}
 use Rattle.std.specs.Prelude.{codes}
 use Rattle.fints_cli_texts.specs.declared.fault.Fault.TheVariants.{Memory, NoFinding, NoMessage, NoPart}
@@ -10,6 +10,7 @@ use Rattle.fints_cli_words.specs.declared.requests.Asked.{Asked}
 use Rattle.fints_cli_words.specs.declared.requests.Asked.TheVariants.{Run}
 use Rattle.fints_cli_words.specs.declared.requests.Request.{Request}
 use Rattle.fints_cli_commands.specs.Commands.{failure_status, FailsFor}
+use Rattle.fints_cli_commands.specs.Loading.{files_of, FollowsReading}
 use Rattle.fints_cli_commands.specs.FailureText.{failure_text}
 use Rattle.fints_cli_commands.specs.declared.failing.Failure.{Failure}
 use Rattle.fints_cli_commands.specs.declared.failing.Failure.TheVariants.{Input, Unread}
@@ -66,10 +67,11 @@ module _ (old new : Option (List ℕ)) (lost lost_after : ℕ) where
   says_with (x ∷ xs) b empty is at told = told
 
 -- the request has no answer, and the failure's status
-pub fails_with : (asked : Asked) (request : Request) (holds : List ℕ → Option (List ℕ)) (status : ℕ) (f : Failure)
-    → asked ≡ Run request → failure_status f ≡ status → FailsFor request holds f
-    → FailsWith status asked holds
-fails_with asked request holds status f is at fails = subst (λ a. FailsWith status a holds) (sym is) (f, (at, fails))
+pub fails_with : (asked : Asked) (request : Request) (holds : List ℕ → Option (List ℕ)) (before after : ReadCounts)
+    (status : ℕ) (f : Failure) → asked ≡ Run request → failure_status f ≡ status → FailsFor request holds f
+    → FollowsReading (files_of request) holds before after f → FailsWith status asked holds before after
+fails_with asked request holds before after status f is at fails follows =
+    subst (λ a. FailsWith status a holds before after) (sym is) (f, (at, fails, follows))
 
 -- no failure has the status of an answer
 pub failure_above : (f : Failure) → 2 ≤ failure_status f

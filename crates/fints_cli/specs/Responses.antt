@@ -41,14 +41,16 @@ RanOut (Usage fault) = ⊥
 RanOut NoMemory = Unit {0}
 RanOut (Run request) = ⊥
 
--- the request has no answer for this failure, which has this status
-abbrev pub IsFailureOf : Asked → (List ℕ → Option (List ℕ)) → ℕ → Failure → Type 0
-IsFailureOf (Run request) holds status f = (failure_status f ≡ status) × FailsFor request holds f
-IsFailureOf _ holds status f = ⊥
+-- the request has no answer for this failure, which has this status and follows how the files were read
+abbrev pub IsFailureOf : Asked → (List ℕ → Option (List ℕ)) → ReadCounts → ReadCounts → ℕ → Failure → Type 0
+IsFailureOf (Run request) holds before after status f =
+    (failure_status f ≡ status) × FailsFor request holds f
+    × FollowsReading (files_of request) holds before after f
+IsFailureOf _ holds before after status f = ⊥
 
 -- the request has no answer, and this status
-abbrev pub FailsWith : ℕ → Asked → (List ℕ → Option (List ℕ)) → Type 0
-FailsWith status asked holds = (f : Failure) × IsFailureOf asked holds status f
+abbrev pub FailsWith : ℕ → Asked → (List ℕ → Option (List ℕ)) → ReadCounts → ReadCounts → Type 0
+FailsWith status asked holds before after = (f : Failure) × IsFailureOf asked holds before after status f
 
 -- none of the files that are named is longer than its limit, where their bytes are known
 abbrev pub FilesAreWithin : Asked → (List ℕ → Option (List ℕ)) → Type 0
@@ -57,30 +59,21 @@ FilesAreWithin (Usage fault) holds = Unit {0}
 FilesAreWithin NoMemory holds = Unit {0}
 FilesAreWithin (Run request) holds = AreWithin (files_of request) holds
 
--- the request has no answer, since a file that it names couldn't be read
-abbrev pub FailsToRead : Asked → (List ℕ → Option (List ℕ)) → ReadCounts → ReadCounts → Type 0
-FailsToRead (Help help) holds before after = ⊥
-FailsToRead (Usage fault) holds before after = ⊥
-FailsToRead NoMemory holds before after = ⊥
-FailsToRead (Run request) holds before after =
-    (f : Failure) × (failure_status f ≡ 5) × FailsFor request holds f
-    × FollowsReading (files_of request) holds before after f
-
 -- The status, what the output got and how reads and writes went are those of what was asked for: up to status 1 the whole text,
 -- from 2 to 4 nothing, and at 5 nothing where a file couldn't be read, else a prefix of the text, after which a write failed.
 pub record IsResponse (asked : Asked) (holds : List ℕ → Option (List ℕ)) (before after : ReadCounts)
     (lost lost_after : ℕ) (status : ℕ) (old new : Option (List ℕ)) : Type 0 where
   pub answered : status ≤ 1 → IsAnswered asked holds status old new
-  pub usage : status ≡ 2 → IsUsage asked ⊎ FailsWith 2 asked holds
+  pub usage : status ≡ 2 → IsUsage asked ⊎ FailsWith 2 asked holds before after
   pub unread : IsUsage asked → after.calls ≡ before.calls
-  pub refused : status ≡ 3 → FailsWith 3 asked holds
-  pub memory : status ≡ 4 → RanOut asked ⊎ FailsWith 4 asked holds
+  pub refused : status ≡ 3 → FailsWith 3 asked holds before after
+  pub memory : status ≡ 4 → RanOut asked ⊎ FailsWith 4 asked holds before after
   pub read : status ≤ 3 → NoneFailed before after
   pub within : status ≤ 3 → FilesAreWithin asked holds
   pub silent : (status ≡ 2) ⊎ ((status ≡ 3) ⊎ (status ≡ 4)) → GetsNothing old new
   pub fine : status ≤ 4 → lost_after ≡ lost
   pub failed : status ≡ 5
-      → (FailsToRead asked holds before after × GetsNothing old new)
+      → (FailsWith 5 asked holds before after × GetsNothing old new)
       ⊎ (IsCutOff asked holds old new × (lost_after ≡ one_more lost))
 
 -- ---- what the errors get
@@ -141,10 +134,10 @@ abbrev pub fault_line : Failure → List ℕ
 fault_line f = told_line (codes "error: ") (failure_text f)
 
 -- the request has no answer for a failure of this status, and the line of this failure is said
-abbrev pub SaysFailure : Asked → (List ℕ → Option (List ℕ)) → ℕ → (old new : Option (List ℕ))
-    (lost lost_after : ℕ) → Type 0
-SaysFailure asked holds status old new lost lost_after =
-    (f : Failure) × IsFailureOf asked holds status f
+abbrev pub SaysFailure : Asked → (List ℕ → Option (List ℕ)) → ReadCounts → ReadCounts → ℕ
+    → (old new : Option (List ℕ)) (lost lost_after : ℕ) → Type 0
+SaysFailure asked holds before after status old new lost lost_after =
+    (f : Failure) × IsFailureOf asked holds before after status f
     × SaysFirst (AsksNoHint asked) (fault_line f) old new lost lost_after
 
 -- the output failed, and this is said
@@ -161,8 +154,8 @@ SaysBeside asked holds old new lost lost_after =
 -- What the errors got. Up to status 1 that is what is said beside the answer, and then reasons and notes. From 2 on it is the
 -- usage of a bad command line, the line of an output that failed, or the line of a failure that the request has, and then
 -- a hint. Reasons, notes and hints come only where they are asked for. Where memory ran out, there is its line only.
-pub record SaysWhy (asked : Asked) (holds : List ℕ → Option (List ℕ)) (status : ℕ) (old new : Option (List ℕ))
-    (lost lost_after : ℕ)
+pub record SaysWhy (asked : Asked) (holds : List ℕ → Option (List ℕ)) (before after : ReadCounts)
+    (status : ℕ) (old new : Option (List ℕ)) (lost lost_after : ℕ)
     : Type 0 where
   pub beside : status ≤ 1 → SaysBeside asked holds old new lost lost_after
   pub usage : TellsUsage asked old new lost lost_after
@@ -170,5 +163,5 @@ pub record SaysWhy (asked : Asked) (holds : List ℕ → Option (List ℕ)) (sta
       → IsUsage asked
       ⊎ (RanOut asked
       ⊎ (SaysUnwritten status old new lost lost_after
-      ⊎ SaysFailure asked holds status old new lost lost_after))
+      ⊎ SaysFailure asked holds before after status old new lost lost_after))
   pub memory : status ≡ 4 → Tells old new lost lost_after memory_line

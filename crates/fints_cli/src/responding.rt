@@ -6,7 +6,7 @@ ghost use Rattle.fints_cli_words.specs.Requests.{built_in_request};
 ghost use Rattle.fints_cli_words.specs.declared.requests.Asked.{Asked};
 ghost use Rattle.fints_cli_words.specs.declared.requests.Asked.TheVariants as asked;
 ghost use Rattle.fints_cli_commands.specs.Commands.{failure_status};
-ghost use Rattle.fints_cli.specs.Responses.{IsAnswered, IsCutOff, IsResponse, RanOut, IsUntold, SaysText, IsUsage, FailsToRead, FailsWith, FilesAreWithin, SaysFirst, SaysWhy, Tells, told_line, fault_line, memory_line, write_line};
+ghost use Rattle.fints_cli.specs.Responses.{IsAnswered, IsCutOff, IsResponse, RanOut, IsUntold, SaysText, IsUsage, FailsWith, FilesAreWithin, SaysFirst, SaysWhy, Tells, told_line, fault_line, memory_line, write_line};
 
 use crate::emitting::emit;
 use fints_cli_commands::{Answered, Refusal, perform};
@@ -180,14 +180,17 @@ pub fn respond<F: Files, O: Out, E: Out>(
     ensures answered { result ≤ 1
         → IsAnswered asked.now (F.holds files.old) result (O.told out.old) (O.told out.new) }
     ensures usage { IsUsage asked.now → result ≡ 2 }
-    ensures only_usage { result ≡ 2 → IsUsage asked.now ⊎ FailsWith 2 asked.now (F.holds files.old) }
-    ensures refused { result ≡ 3 → FailsWith 3 asked.now (F.holds files.old) }
-    ensures memory { result ≡ 4 → RanOut asked.now ⊎ FailsWith 4 asked.now (F.holds files.old) }
+    ensures only_usage { result ≡ 2 → IsUsage asked.now
+        ⊎ FailsWith 2 asked.now (F.holds files.old) (F.reads files.old) (F.reads files.new) }
+    ensures refused { result ≡ 3
+        → FailsWith 3 asked.now (F.holds files.old) (F.reads files.old) (F.reads files.new) }
+    ensures memory { result ≡ 4 → RanOut asked.now
+        ⊎ FailsWith 4 asked.now (F.holds files.old) (F.reads files.old) (F.reads files.new) }
     ensures silent { (result ≡ 2) ⊎ ((result ≡ 3) ⊎ (result ≡ 4))
         → GetsNothing (O.told out.old) (O.told out.new) }
     ensures fine { result ≤ 4 → O.failed_calls out.new ≡ O.failed_calls out.old }
     ensures failed { result ≡ 5
-        → (FailsToRead asked.now (F.holds files.old) (F.reads files.old) (F.reads files.new)
+        → (FailsWith 5 asked.now (F.holds files.old) (F.reads files.old) (F.reads files.new)
         × GetsNothing (O.told out.old) (O.told out.new))
         ⊎ (IsCutOff asked.now (F.holds files.old) (O.told out.old) (O.told out.new)
         × (O.failed_calls out.new ≡ one_more (O.failed_calls out.old))) }
@@ -195,7 +198,7 @@ pub fn respond<F: Files, O: Out, E: Out>(
     ensures read { result ≤ 3 → NoneFailed (F.reads files.old) (F.reads files.new) }
     ensures within { result ≤ 3 → FilesAreWithin asked.now (F.holds files.old) }
     ensures calls { (F.reads files.new).calls ≤ (F.reads files.old).calls + 5 * MAX_READS }
-    ensures says { SaysWhy asked.now (F.holds files.old) result
+    ensures says { SaysWhy asked.now (F.holds files.old) (F.reads files.old) (F.reads files.new) result
         (E.told err.old) (E.told err.new) (E.failed_calls err.old) (E.failed_calls err.new) }
 {
     match asked {
@@ -229,8 +232,8 @@ pub fn execute<F: Files, O: Out, E: Out>(
     ensures responds { (what : Asked) × (words.now ≡ [] → what ≡ asked.Run built_in_request)
         × IsResponse what (F.holds files.old) (F.reads files.old) (F.reads files.new)
         (O.failed_calls out.old) (O.failed_calls out.new) result (O.told out.old) (O.told out.new)
-        × SaysWhy what (F.holds files.old) result (E.told err.old) (E.told err.new) (E.failed_calls err.old)
-        (E.failed_calls err.new) }
+        × SaysWhy what (F.holds files.old) (F.reads files.old) (F.reads files.new) result
+        (E.told err.old) (E.told err.new) (E.failed_calls err.old) (E.failed_calls err.new) }
     ensures calls { (F.reads files.new).calls ≤ (F.reads files.old).calls + 5 * MAX_READS }
 {
     let asked = read_words(alloc, words);

@@ -25,13 +25,20 @@ class_offered orders recording lists all (classes.Bin c) h = h
 class_offered orders recording lists all (classes.OneOf c) h = h
 class_offered orders recording lists all (classes.Account c) h = listed_accounts orders recording lists all c.values h
 
+field_offered : (orders : List OrderRow) (recording : List Exchange) (lists : List AccountList)
+    → All (IsOffer orders recording) lists → (f : NamedField) → IsDraftField (AreOffered lists) f
+    → IsDraftField (AreAccounts orders recording) f
+field_offered orders recording lists all f h = (h.0, class_offered orders recording lists all f.class h.1)
+
 -- the fields of a script list what orders may name, where each list is one of these
 pub keeps_offered : (orders : List OrderRow) (recording : List Exchange) (lists : List AccountList)
-    → All (IsOffer orders recording) lists → (script : ScriptValue) → KeepsSecrets (AreOffered lists) script
-    → KeepsSecrets (AreAccounts orders recording) script
-keeps_offered orders recording lists all script keeps = record {
+    → All (IsOffer orders recording) lists → (most : ℕ) (script : ScriptValue)
+    → KeepsSecrets (AreOffered lists) most script → KeepsSecrets (AreAccounts orders recording) most script
+keeps_offered orders recording lists all most script keeps = record {
   fields = All-weaker (IsDraftField (AreOffered lists)) (IsDraftField (AreAccounts orders recording))
-      (λ f h. class_offered orders recording lists all f.class h) script.fields keeps.fields;
+      (field_offered orders recording lists all) script.fields keeps.fields;
   signers = keeps.signers;
+  signer_names = keeps.signer_names;
   steps = keeps.steps;
+  step_names = keeps.step_names;
 }

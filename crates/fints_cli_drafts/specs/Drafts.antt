@@ -1,7 +1,7 @@
 -- What a draft of a recorded dialogue is: the text of a script, and that of a case that has it send the client's
 -- messages once more.
-use Rattle.std.specs.Prelude.{codes, ◌≡◌, ◌≤◌, ◌+◌, ◌⊎◌, ◌&&◌, ◌||◌, ℕ, List, [], ◌∷◌, length, get_or, Option, Some, None, Bool, true, false, ◌==◌, IsTrue}
-use Rattle.std.specs.Char.{is_ascii_alphanumeric}
+use Rattle.std.specs.Prelude.{codes, decimal, ◌≡◌, ◌≤◌, ◌+◌, ◌⊎◌, ◌&&◌, ◌||◌, ℕ, List, [], ◌∷◌, ◌++◌, length, map, get_or, Any, Option, Some, None, Bool, true, false, ◌==◌, IsTrue}
+use Rattle.std.specs.Char.{is_ascii_alphanumeric, to_ascii_lowercase}
 use Rattle.std.specs.List.{All, AllZip, flat_map, list_all, list_any}
 use Rattle.fints_syntax_segments.specs.Segment.{item_value}
 use Rattle.fints_syntax_segments.specs.declared.item.OwnedSegment.{OwnedSegment}
@@ -27,6 +27,7 @@ use Rattle.fints_script_templates.specs.declared.template.TemplateItem.TheVarian
 use Rattle.fints_script.specs.Numbered.{numbered}
 use Rattle.fints_script.specs.Plans.{Admits}
 use Rattle.fints_script.specs.Scripts.{Denotes, ScriptValue}
+use Rattle.fints_script.specs.Steps.{StepValue}
 use Rattle.fints_wire.specs.Runs.{Run}
 use Rattle.fints_wire.specs.declared.dialogue.Sent.{Sent}
 use Rattle.fints_cli_texts.specs.Judge.{IsTableRefusal}
@@ -39,6 +40,8 @@ use Rattle.fints_cli_drafts_texts.specs.DraftText.{draft_text}
 use Rattle.fints_cli_drafts_texts.specs.declared.notes.Notes.{Notes}
 use Rattle.fints_cli_drafts.specs.declared.drafting.Drafted.{Drafted}
 use Rattle.fints_cli_drafts.specs.declared.drafting.Drafted.TheVariants.{Script, Case}
+use Rattle.fints_cli_drafts.specs.declared.fields.Purpose.{Purpose}
+use Rattle.fints_cli_drafts.specs.declared.fields.Purpose.TheVariants as purposes
 
 -- ---- a dialogue sent once more
 
@@ -63,7 +66,7 @@ pub record Replays (exchanges : List Exchange) (script : ScriptValue) (values : 
   pub run : Run script values (answers_of exchanges) sent
   pub again : AreSentAgain exchanges sent
 
--- ---- no secret in the script
+-- ---- no secret in an element
 
 -- the value of a field, or nothing
 abbrev pub IsBlank : TemplateItem → Type 0
@@ -120,15 +123,71 @@ IsDraftClass Lists (classes.Bin c) = (c.min ≡ 1) × (c.max ≡ 99)
 IsDraftClass Lists (classes.OneOf c) = ⊥
 IsDraftClass Lists (classes.Account c) = Lists c.values
 
-abbrev pub IsDraftField : (List (List (List ℕ)) → Type 0) → NamedField → Type 0
-IsDraftField Lists f = IsDraftClass Lists f.class
+-- ---- no secret in a name
 
--- PIN, TAN and new PIN are values of fields, and the last elements of their segments; and no field's bounds come from
--- a recorded value
-pub record KeepsSecrets (Lists : List (List (List ℕ)) → Type 0) (script : ScriptValue) : Type 0 where
+-- the name is the word and a number up to 100
+abbrev pub IsNumbered : List ℕ → List ℕ → Type 0
+IsNumbered word name = (n : ℕ) × (n ≤ 100) × (name ≡ word ++ decimal n)
+
+-- the name is the word, with a number or without
+abbrev pub IsWord : List ℕ → List ℕ → Type 0
+IsWord word name = (name ≡ word) ⊎ IsNumbered word name
+
+abbrev pub IsBinWord : List ℕ → List ℕ → Type 0
+IsBinWord word name = (rest : List ℕ) × (name ≡ codes "bin" ++ rest) × IsWord word rest
+
+-- the word for what the value of a field is
+abbrev pub word_of : Purpose → List ℕ
+word_of (purposes.Reference signature) = codes "ref"
+word_of purposes.Date = codes "date"
+word_of purposes.Time = codes "time"
+word_of purposes.Pin = codes "pin"
+word_of (purposes.Tan signature) = codes "tan"
+word_of purposes.FurtherSecret = codes "secret"
+word_of purposes.NewPin = codes "newpin"
+word_of purposes.OrderReference = codes "orderref"
+word_of (purposes.Account list) = codes "account"
+
+-- the name of a field of this purpose, whose values are texts or binary
+abbrev pub IsNameFor : Purpose → List ℕ → Type 0
+IsNameFor purpose name = IsWord (word_of purpose) name ⊎ IsBinWord (word_of purpose) name
+
+-- the name of the dialogue's id, or of a field of some purpose
+abbrev pub IsFieldName : List ℕ → Type 0
+IsFieldName name = (name ≡ codes "dialog") ⊎ ((purpose : Purpose) × IsNameFor purpose name)
+
+abbrev pub IsSignerName : Signer → Type 0
+IsSignerName signer = IsWord (codes "signer") signer.name
+
+-- the letters are those of the template's kind, in upper or lower case
+abbrev pub SpellsKind : List ℕ → Template → Type 0
+SpellsKind letters t = map to_ascii_lowercase letters ≡ map to_ascii_lowercase t.kind
+
+-- the name is this front, or it, a dash and the kind of a segment
+abbrev pub IsNameAfter : List ℕ → List Template → List ℕ → Type 0
+IsNameAfter front templates name =
+    (name ≡ front)
+    ⊎ ((letters : List ℕ) × (name ≡ front ++ (codes "-" ++ letters)) × Any (SpellsKind letters) templates)
+
+-- the name of a step: the number of its message, up to the most of the recording, and the kind of one of its segments
+abbrev pub IsStepName : ℕ → StepValue → Type 0
+IsStepName most step =
+    (n : ℕ) × (n ≤ most) × IsNameAfter (codes "m" ++ decimal n) step.templates step.name
+
+-- ---- no secret in a script
+
+abbrev pub IsDraftField : (List (List (List ℕ)) → Type 0) → NamedField → Type 0
+IsDraftField Lists f = IsFieldName f.name × IsDraftClass Lists f.class
+
+-- PIN, TAN and new PIN are values of fields, and the last elements of their segments; and no name and no field's
+-- bounds come from a recorded value
+pub record KeepsSecrets (Lists : List (List (List ℕ)) → Type 0) (most : ℕ) (script : ScriptValue)
+    : Type 0 where
   pub fields : All (IsDraftField Lists) script.fields
   pub signers : All HasBlankPin script.signers
+  pub signer_names : All IsSignerName script.signers
   pub steps : All (λ step. All HasBlankNewPin step.templates) script.steps
+  pub step_names : All (IsStepName most) script.steps
 
 -- a field with the bounds of a secret
 abbrev pub is_secret_field : NamedField → Bool
@@ -159,7 +218,7 @@ pub record IsDraft (orders : List OrderRow) (recording exchanges : List Exchange
   pub printed : script_text ≡ draft_text script notes
   pub case : IsCaseOf case_text values (answers_of exchanges)
   pub replays : Replays exchanges script values
-  pub secrets : KeepsSecrets (AreAccounts orders recording) script
+  pub secrets : KeepsSecrets (AreAccounts orders recording) (length recording) script
   pub secret_is : secret ≡ has_secret script
 
 abbrev pub drafted_text : Drafted → List ℕ → List ℕ → List ℕ

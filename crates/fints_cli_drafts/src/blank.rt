@@ -3,8 +3,9 @@ ghost use Rattle.std.specs.Prelude.{◌≡◌, [], IsTrue, get_or};
 ghost use Rattle.std.specs.Char.{is_ascii_alphanumeric};
 ghost use Rattle.std.specs.List.{All, list_all, list_any};
 ghost use Rattle.fints_cli_drafts_accounts.specs.Offers.{AreOffered};
-ghost use Rattle.fints_cli_drafts.specs.Drafts.{HasBlankNewPin, HasBlankPin, IsBlank, IsDraftField, IsLastBlank, IsReference, KeepsSecrets, has_secret, is_digits, is_draft_text, is_latin, is_secret_field};
+ghost use Rattle.fints_cli_drafts.specs.Drafts.{HasBlankNewPin, HasBlankPin, IsBlank, IsDraftClass, IsDraftField, IsLastBlank, IsReference, KeepsSecrets, has_secret, is_digits, is_draft_text, is_latin, is_secret_field};
 
+use crate::names::{is_field_name, is_signer_named, is_step_named};
 use fints_cli_drafts_accounts::{AccountList, are_offered};
 use fints_script::{Field, NamedField, Script, Signer, Template, TemplateElements, TemplateItem};
 use fints_script_fields::{Alphabet, Text};
@@ -109,15 +110,21 @@ fn is_draft_text(text: &Text) -> bool
             && (text.min == 8 && text.max == 8 || text.min == 6 && text.max == 6))
 }
 
-fn is_draft_field(lists: &[AccountList], field: &NamedField) -> bool
-    ensures { IsTrue result → IsDraftField (AreOffered lists.now) field.now }
+fn is_draft_class(lists: &[AccountList], class: &Field) -> bool
+    ensures { IsTrue result → IsDraftClass (AreOffered lists.now) class.now }
 {
-    match &field.class {
+    match class {
         Field::Text(text) => is_draft_text(text),
         Field::Bin(bin) => bin.min == 1 && bin.max == 99,
         Field::OneOf(_) => false,
         Field::Account(account) => are_offered(lists, account.values.as_slice()),
     }
+}
+
+fn is_draft_field(lists: &[AccountList], field: &NamedField) -> bool
+    ensures { IsTrue result → IsDraftField (AreOffered lists.now) field.now }
+{
+    is_field_name(field.name.as_bytes()) && is_draft_class(lists, &field.class)
 }
 
 fn is_secret_field(field: &NamedField) -> bool
@@ -137,18 +144,21 @@ pub fn has_secret(script: &Script) -> bool
     script.fields().iter().any(is_secret_field)
 }
 
-/// Whether PIN, TAN and new PIN are values of fields, and the last elements of their segments; and each list of
-/// accounts is one of these.
-pub fn keeps_secrets(lists: &[AccountList], script: &Script) -> bool
-    ensures { IsTrue result → KeepsSecrets (AreOffered lists.now) script.now }
+/// Whether PIN, TAN and new PIN are values of fields, and the last elements of their segments; each list of
+/// accounts is one of these; and the names say nothing of what was recorded but the kinds of segments. A recording
+/// has at most that number of messages of the client.
+pub fn keeps_secrets(lists: &[AccountList], most: usize, script: &Script) -> bool
+    ensures { IsTrue result → KeepsSecrets (AreOffered lists.now) most script.now }
 {
     script
         .fields()
         .iter()
         .all(|field| is_draft_field(lists, field))
         && script.signers().iter().all(has_blank_pin)
+        && script.signers().iter().all(is_signer_named)
         && script
             .steps()
             .iter()
             .all(|step| are_blank_new_pins(step.templates()))
+        && script.steps().iter().all(|step| is_step_named(step, most))
 }

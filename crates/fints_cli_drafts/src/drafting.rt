@@ -1,5 +1,5 @@
 //! Drafts of recorded dialogues, each tried before it is handed out.
-ghost use Rattle.std.specs.Prelude.{◌≡◌, ℕ, All, List, Option, IfErr, IfOk, IsOk, IsTrue};
+ghost use Rattle.std.specs.Prelude.{◌≡◌, ℕ, All, List, Option, length, IfErr, IfOk, IsOk, IsTrue};
 ghost use Rattle.fints_cli_texts.specs.Audit.{IsLogReadOf};
 ghost use Rattle.fints_script_cases.specs.Cases.{IsCaseOf};
 ghost use Rattle.fints_rules_permissions.specs.declared.orders.OrderRow.{OrderRow as OrderRowValue};
@@ -95,19 +95,21 @@ fn case_text(
     Ok((text, read))
 }
 
-// The draft of a sketch, once it was tried: its script is printed and read back, and sends what was recorded.
+// The draft of a sketch, once it was tried: its script is printed and read back, and sends what was recorded. The
+// recording has that number of messages of the client.
 fn tried(
     alloc: Global,
     orders: &Orders<'_>,
+    messages: usize,
     exchanges: &[Exchange<'_>],
     sketch: Sketch,
 ) -> Result<Draft, Undrafted>
     ensures { IfOk result (λ draft. (table : List OrderRowValue) (recording : List ExchangeValue)
-        → All (IsOffer table recording) orders.now.offers.now.lists.items
+        → All (IsOffer table recording) orders.now.offers.now.lists.items → length recording ≡ messages
         → IsDraft table recording exchanges.now draft.script.items draft.case.items draft.has_secret) }
 {
     let draft = printed(alloc, &sketch)?;
-    if !keeps_secrets(orders.offers.lists.as_slice(), &draft.script) {
+    if !keeps_secrets(orders.offers.lists.as_slice(), messages, &draft.script) {
         return Err(Place::whole(0).refused());
     }
     let (case, read) = case_text(alloc, sketch.values, exchanges)?;
@@ -135,7 +137,7 @@ fn draft_of(
         offers: &offers,
     };
     let sketch = sketch_of(alloc, &orders, *part)?;
-    tried(alloc, &orders, part.exchanges, sketch)
+    tried(alloc, &orders, exchanges.len(), part.exchanges, sketch)
 }
 
 // The refusal where a part of a recording has no draft, with the place in the recording.

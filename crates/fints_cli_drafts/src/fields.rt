@@ -1,6 +1,9 @@
 //! The fields of a draft: what a client makes new for each message, and its secrets. Neither is a text
 //! of the script (FinTS 3.0, Formals, HNSHK and HNSHA; Security PIN/TAN, HNSHA, HKPAE and HKTAN); and the accounts
 //! of orders.
+ghost use Rattle.std.specs.Prelude.{◌≡◌};
+ghost use Rattle.fints_cli_drafts.specs.Drafts.{word_of};
+
 use crate::place::{Place, Undrafted};
 use crate::texts::write_account;
 use fints_cli_drafts_accounts::{Offer, Offers};
@@ -46,7 +49,10 @@ impl Purpose {
         }
     }
 
-    fn word(self) -> &'static str {
+    /// The word in the name of its field.
+    pub fn word(self) -> &'static str
+        ensures { result.now ≡ word_of self }
+    {
         match self {
             Purpose::Reference(_) => "ref",
             Purpose::Date => "date",

@@ -6,6 +6,7 @@ mod blank;
 mod drafting;
 mod elements;
 mod fields;
+mod names;
 mod notes;
 mod place;
 mod printing;

@@ -1,5 +1,5 @@
 //! Which account the items of element 2 name.
-ghost use Rattle.std.specs.Prelude.{◌≡◌, ◌<◌, ◌↔◌, Any, IsTrue, [], slice_index_or};
+ghost use Rattle.std.specs.Prelude.{◌≡◌, ◌↔◌, Any, IsTrue, [], slice_index_or};
 ghost use Rattle.fints_rules_permissions.specs.Accounts.{account_named, national_of};
 ghost use Rattle.fints_cli_drafts_accounts.specs.Accounts.{IsAccountOf};
 
@@ -33,10 +33,10 @@ pub fn key_of(form: AccountForm, items: &[Bytes]) -> AccountKey<'_>
 }
 
 // Whether the row has the four national items from a place on, with a number.
-fn has_national(row: &AccountRow, items: &[Bytes], first: usize) -> bool
-    requires { first < 3 }
+fn has_national(row: &AccountRow, items: &[Bytes], first: u8) -> bool
     ensures { IsTrue result ↔ IsAccountOf (national_of items.now first) row.now }
 {
+    let first = usize::from(first);
     let number = item(items, first);
     if number.is_empty() {
         return false;

@@ -40,29 +40,27 @@ fn are_greatest(alloc: Global, plan: &Plan<'_>) -> Result<bool, Memory> {
     Ok(figures.as_slice() == FIGURES.as_slice())
 }
 
-fn is_open(
-    alloc: Global,
-    permissions: &Permissions<'_>,
-    plan: &Plan<'_>,
-    text: &[u8],
-    open: Open,
-) -> Result<bool, CertFault>
-    requires { permissions.now.orders ≡ plan.now.orders }
-{
+// A plan, and the permissions of a bank by the same order table.
+#[derive(Clone, Copy)]
+struct Asked<'a> {
+    permissions: &'a Permissions<'a>,
+    plan: &'a Plan<'a>,
+    ghost same_orders: { permissions.now.orders ≡ plan.now.orders },
+}
+
+fn is_open(alloc: Global, asked: Asked<'_>, text: &[u8], open: Open) -> Result<bool, CertFault> {
     let certificate = Certificate::read(alloc, text)?;
-    Ok(first_open(permissions, plan, &certificate) == Some(open))
+    Ok(first_open(asked.permissions, asked.plan, &certificate) == Some(open))
 }
 
 // Whether the report is of the plan, and says that of its one finding.
 fn is_left(
     alloc: Global,
-    permissions: &Permissions<'_>,
-    plan: &Plan<'_>,
+    asked: Asked<'_>,
     finding: Finding,
     left: Option<u16>,
-) -> Result<bool, Memory>
-    requires { permissions.now.orders ≡ plan.now.orders }
-{
+) -> Result<bool, Memory> {
+    let Asked { permissions, plan } = asked;
     let report = check(alloc, permissions, plan)?;
     if report.findings() != [finding].as_slice() {
         return Ok(false);
@@ -70,18 +68,11 @@ fn is_left(
     Ok(report.step_left(0) == left && report.plan().step_count() == plan.step_count())
 }
 
-fn is_row(
-    alloc: Global,
-    permissions: &Permissions<'_>,
-    plan: &Plan<'_>,
-    row: Row<'_>,
-) -> Result<bool, Fail>
-    requires { permissions.now.orders ≡ plan.now.orders }
-{
+fn is_row(alloc: Global, asked: Asked<'_>, row: Row<'_>) -> Result<bool, Fail> {
     match row {
-        Row::Figures => Ok(are_greatest(alloc, plan)?),
-        Row::Open(text, open) => Ok(is_open(alloc, permissions, plan, text, open)?),
-        Row::Left(finding, left) => Ok(is_left(alloc, permissions, plan, finding, left)?),
+        Row::Figures => Ok(are_greatest(alloc, asked.plan)?),
+        Row::Open(text, open) => Ok(is_open(alloc, asked, text, open)?),
+        Row::Left(finding, left) => Ok(is_left(alloc, asked, finding, left)?),
     }
 }
 
@@ -89,7 +80,11 @@ fn is_row_by(alloc: Global, params: &Params, script: &Script, row: Row<'_>) -> R
     let orders = OrderTable::read(alloc, T)?;
     let permissions = Permissions::build(alloc, params, &orders)?;
     let plan = script.plan(&orders)?;
-    is_row(alloc, &permissions, &plan, row)
+    let asked = Asked {
+        permissions: &permissions,
+        plan: &plan,
+    };
+    is_row(alloc, asked, row)
 }
 
 // Whether the script by the capture does what stands in the row.

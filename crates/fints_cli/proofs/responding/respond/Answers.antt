@@ -90,7 +90,7 @@ returns-in-Err-clause-says g c =
       usage = tt;
       line = λ two. inr (inr (inr (
         c.in-Err.refusal.failure,
-        (sym c.tell_refusal.ensures.status, c.in-Err.ensures.refused),
+        (sym c.tell_refusal.ensures.status, c.in-Err.ensures.refused, c.in-Err.ensures.reason),
         first_under _ _ _ _ _ _ _ c.in-Err.ensures.unasked c.tell_refusal.ensures.line,
       )));
       memory = c.tell_refusal.ensures.memory;
@@ -98,12 +98,15 @@ returns-in-Err-clause-says g c =
 
 pub returns-in-Err-clause-only_usage : goal.returns-in-Err-clause-only_usage
 returns-in-Err-clause-only_usage g c two =
-    inr (fails_with _ _ _ 2 c.in-Err.refusal.failure c.in-Run.is (sym c.tell_refusal.ensures.status ∙ two) c.in-Err.ensures.refused)
+    inr (fails_with _ _ _ _ _ 2 c.in-Err.refusal.failure c.in-Run.is (sym c.tell_refusal.ensures.status ∙ two)
+    c.in-Err.ensures.refused c.in-Err.ensures.reason)
 
 pub returns-in-Err-clause-refused : goal.returns-in-Err-clause-refused
 returns-in-Err-clause-refused g c three =
-    fails_with _ _ _ 3 c.in-Err.refusal.failure c.in-Run.is (sym c.tell_refusal.ensures.status ∙ three) c.in-Err.ensures.refused
+    fails_with _ _ _ _ _ 3 c.in-Err.refusal.failure c.in-Run.is (sym c.tell_refusal.ensures.status ∙ three)
+    c.in-Err.ensures.refused c.in-Err.ensures.reason
 
 pub returns-in-Err-clause-memory : goal.returns-in-Err-clause-memory
 returns-in-Err-clause-memory g c four =
-    inr (fails_with _ _ _ 4 c.in-Err.refusal.failure c.in-Run.is (sym c.tell_refusal.ensures.status ∙ four) c.in-Err.ensures.refused)
+    inr (fails_with _ _ _ _ _ 4 c.in-Err.refusal.failure c.in-Run.is (sym c.tell_refusal.ensures.status ∙ four)
+    c.in-Err.ensures.refused c.in-Err.ensures.reason)

@@ -1,4 +1,4 @@
-use Rattle.std.proofs.Common.{subst}
+use Rattle.std.proofs.Common.{length, subst, sym}
 use Rattle.fints_script_cases.specs.Cases.{IsCaseOf}
 use Rattle.fints_cli_drafts_accounts.specs.Offers.{AreOffered}
 use Rattle.fints_cli_drafts.specs.Drafts.{KeepsSecrets}
@@ -8,7 +8,7 @@ use Rattle.fints_cli_drafts.proofs.drafting.tried.Goals as goal
 pub returns : goal.returns
 returns c =
     let script = c.in_ok-draft.draft.script in
-    λ table recording all. record {
+    λ table recording all size. record {
       script = script;
       notes = c.args.sketch.notes;
       values = c.in_ok-case.read.values;
@@ -17,8 +17,9 @@ returns c =
       case = subst (IsCaseOf c.in_ok-case.case.items c.in_ok-case.read.values) c.in_ok-case.ensures.answers
           c.in_ok-case.ensures.text;
       replays = c.in_ok-replay.ensures c.in_ok-case.ensures.answers;
-      secrets = keeps_offered table recording c.args.orders.now.offers.now.lists.items all script
-          (subst (λ lists. KeepsSecrets (AreOffered lists) script) c.as_slice.ensures.value
-          (c.keeps_secrets.ensures c.if-not-keeps_secrets.false));
+      secrets = keeps_offered table recording c.args.orders.now.offers.now.lists.items all (length recording) script
+          (subst (λ most. KeepsSecrets (AreOffered c.args.orders.now.offers.now.lists.items) most script) (sym size)
+          (subst (λ lists. KeepsSecrets (AreOffered lists) c.args.messages script) c.as_slice.ensures.value
+          (c.keeps_secrets.ensures c.if-not-keeps_secrets.false)));
       secret_is = c.has_secret.ensures;
     }

@@ -1,7 +1,7 @@
 use Rattle.std.proofs.Common.{subst, sym}
 use Rattle.fints_cli_drafts_accounts.specs.Offers.{AreOffered}
 use Rattle.fints_cli_drafts.specs.Drafts.{IsDraftClass}
-use Rattle.fints_cli_drafts.proofs.blank.is_draft_field.Goals as goal
+use Rattle.fints_cli_drafts.proofs.blank.is_draft_class.Goals as goal
 
 pub returns-in-Account : goal.returns-in-Account
 returns-in-Account c =
