@@ -31,6 +31,7 @@ count command =
 
 few : (command : Command) → count command ≤ 5
 few commands.BuiltIn = omega arith
+few commands.Orders = omega arith
 few commands.Show = omega arith
 few commands.ShowMessage = omega arith
 few commands.Judge = omega arith

@@ -9,8 +9,8 @@ use Rattle.fints_cli_words.specs.declared.requests.Input.TheVariants.{Shown, Par
 use Rattle.fints_cli_words.specs.declared.requests.Request.{Request}
 use Rattle.fints_cli_commands.specs.declared.loading.Contents.{Contents}
 use Rattle.fints_cli_commands.specs.Commands.{IfAll, IfBoth, OfCase, OfDialogue, OfMessage, OfOwnDialogue, OfScript}
-use Rattle.fints_cli_commands.specs.Loading.{Held, bytes_at, paths_of}
-use Rattle.fints_cli_commands.specs.Loaded.{IsFileAt, IsLoaded}
+use Rattle.fints_cli_commands.specs.Loading.{Held, bytes_at, paths_of, table_at}
+use Rattle.fints_cli_commands.specs.Loaded.{IsFileAt, IsLoaded, table_text}
 use Rattle.fints_cli_files.specs.Captures.{IsReadFrom}
 use Rattle.fints_cli_files.specs.Streams.{IsFile}
 use Rattle.fints_cli_commands.proofs.Reading.{of_file}
@@ -35,7 +35,7 @@ module _ (request : Request) (holds : Held) (params : Result Rows ParamFault) (c
   capture : reads command Params ≡ true → IsReadFrom IsReadOf (bytes_at holds request.paths.params) params
   capture h = rw (is, h) at loaded.params
 
-  orders : reads command Orders ≡ true → IsFile (bytes_at holds request.paths.orders) contents.orders.items
+  orders : reads command Orders ≡ true → IsFile (table_at holds request.paths.orders) (table_text contents.orders)
   orders h = rw (is, h) at loaded.orders
 
   pub script : reads command Script ≡ true → IsFile (bytes_at holds request.paths.script) contents.script.items
@@ -63,7 +63,7 @@ module _ (request : Request) (holds : Held) (params : Result Rows ParamFault) (c
 
   pub of_script : (P : List ℕ → List ℕ → List ℕ → Type 0) → reads command Params ≡ true
       → reads command Orders ≡ true → reads command Script ≡ true
-      → ((bytes : List ℕ) → IsReadOf bytes params → P bytes contents.orders.items contents.script.items)
+      → ((bytes : List ℕ) → IsReadOf bytes params → P bytes (table_text contents.orders) contents.script.items)
       → OfScript holds request.paths P
   of_script P p o s holds_of =
       let (bytes, file, read) = capture p in
@@ -71,7 +71,7 @@ module _ (request : Request) (holds : Held) (params : Result Rows ParamFault) (c
 
   pub of_message : (P : List ℕ → List ℕ → List ℕ → Type 0) → reads command Params ≡ true
       → reads command Orders ≡ true → reads command Message ≡ true
-      → ((bytes : List ℕ) → IsReadOf bytes params → P bytes contents.orders.items contents.message.items)
+      → ((bytes : List ℕ) → IsReadOf bytes params → P bytes (table_text contents.orders) contents.message.items)
       → OfMessage holds request.paths P
   of_message P p o m holds_of =
       let (bytes, file, read) = capture p in
@@ -79,18 +79,18 @@ module _ (request : Request) (holds : Held) (params : Result Rows ParamFault) (c
 
   pub of_dialogue : (P : List ℕ → List ℕ → List ℕ → Type 0) → reads command Params ≡ true
       → reads command Orders ≡ true → reads command Dialogue ≡ true
-      → ((bytes : List ℕ) → IsReadOf bytes params → P bytes contents.orders.items contents.dialogue.items)
+      → ((bytes : List ℕ) → IsReadOf bytes params → P bytes (table_text contents.orders) contents.dialogue.items)
       → OfDialogue holds request.paths P
   of_dialogue P p o d holds_of =
       let (bytes, file, read) = capture p in
       of_all P _ _ _ bytes _ _ file (orders o) (dialogue d) (holds_of bytes read)
 
   pub of_own_dialogue : (P : List ℕ → List ℕ → Type 0) → reads command Orders ≡ true
-      → reads command Dialogue ≡ true → P contents.orders.items contents.dialogue.items
+      → reads command Dialogue ≡ true → P (table_text contents.orders) contents.dialogue.items
       → OfOwnDialogue holds request.paths P
   of_own_dialogue P o d p = of_both P _ _ _ _ (orders o) (dialogue d) p
 
   pub of_case : (P : List ℕ → List ℕ → List ℕ → Type 0) → reads command Orders ≡ true
       → reads command Script ≡ true → reads command Case ≡ true
-      → P contents.orders.items contents.script.items contents.case.items → OfCase holds request.paths P
+      → P (table_text contents.orders) contents.script.items contents.case.items → OfCase holds request.paths P
   of_case P o s c p = of_all P _ _ _ _ _ _ (orders o) (script s) (case c) p

@@ -11,7 +11,7 @@ use Rattle.fints_cli_words.specs.Requests.{option_of}
 use Rattle.fints_cli_commands.specs.declared.failing.Failure.{Failure}
 use Rattle.fints_cli_commands.specs.declared.failing.Failure.TheVariants.{Input, Unread}
 use Rattle.fints_cli_commands.specs.Commands.{FailsFor, HasFiles, RefusesBy, RefusesRequest}
-use Rattle.fints_cli_commands.specs.Loading.{Held, FollowsReading, HasUnreadable, bytes_at, files_of}
+use Rattle.fints_cli_commands.specs.Loading.{Held, FollowsReading, HasUnreadable, bytes_at, files_of, table_at}
 use Rattle.fints_cli_commands.specs.Loaded.{IsUnloaded}
 
 one : (a : Option (List ℕ)) → IfSome a (λ x. Unit {0})
@@ -38,38 +38,40 @@ five (Some x) b c d e = four b c d e
 memory_refuses : (command : Command) (paths : Paths) (number : Option ℕ) (holds : Held)
     → RefusesBy command paths number holds Memory
 memory_refuses commands.BuiltIn paths number holds = tt
+memory_refuses commands.Orders paths number holds = refl
 memory_refuses commands.Show paths number holds = one (bytes_at holds paths.shown)
 memory_refuses commands.ShowMessage paths number holds = one (bytes_at holds paths.message)
 memory_refuses commands.Judge paths number holds =
-    three (bytes_at holds paths.params) (bytes_at holds paths.orders) (bytes_at holds paths.message)
+    three (bytes_at holds paths.params) (table_at holds paths.orders) (bytes_at holds paths.message)
 memory_refuses commands.JudgeAfter paths number holds =
-    five (bytes_at holds paths.params) (bytes_at holds paths.orders) (bytes_at holds paths.message) (bytes_at holds paths.before) (bytes_at holds paths.answer)
+    five (bytes_at holds paths.params) (table_at holds paths.orders) (bytes_at holds paths.message) (bytes_at holds paths.before) (bytes_at holds paths.answer)
 memory_refuses commands.Audit paths number holds =
-    three (bytes_at holds paths.params) (bytes_at holds paths.orders) (bytes_at holds paths.dialogue)
+    three (bytes_at holds paths.params) (table_at holds paths.orders) (bytes_at holds paths.dialogue)
 memory_refuses commands.AuditOwn paths number holds =
-    two (bytes_at holds paths.orders) (bytes_at holds paths.dialogue)
+    two (table_at holds paths.orders) (bytes_at holds paths.dialogue)
 memory_refuses commands.Record paths number holds = one (bytes_at holds paths.dialogue)
 memory_refuses commands.Draft paths number holds =
-    two (bytes_at holds paths.orders) (bytes_at holds paths.dialogue)
+    two (table_at holds paths.orders) (bytes_at holds paths.dialogue)
 memory_refuses commands.DraftCase paths number holds =
-    two (bytes_at holds paths.orders) (bytes_at holds paths.dialogue)
+    two (table_at holds paths.orders) (bytes_at holds paths.dialogue)
 memory_refuses commands.Check paths number holds =
-    three (bytes_at holds paths.params) (bytes_at holds paths.orders) (bytes_at holds paths.script)
+    three (bytes_at holds paths.params) (table_at holds paths.orders) (bytes_at holds paths.script)
 memory_refuses commands.Explain paths number holds =
-    three (bytes_at holds paths.params) (bytes_at holds paths.orders) (bytes_at holds paths.script)
+    three (bytes_at holds paths.params) (table_at holds paths.orders) (bytes_at holds paths.script)
 memory_refuses commands.Certify paths number holds =
-    three (bytes_at holds paths.params) (bytes_at holds paths.orders) (bytes_at holds paths.script)
+    three (bytes_at holds paths.params) (table_at holds paths.orders) (bytes_at holds paths.script)
 memory_refuses commands.Verify paths number holds =
-    four (bytes_at holds paths.params) (bytes_at holds paths.orders) (bytes_at holds paths.script) (bytes_at holds paths.certificate)
+    four (bytes_at holds paths.params) (table_at holds paths.orders) (bytes_at holds paths.script) (bytes_at holds paths.certificate)
 memory_refuses commands.Run paths number holds =
-    three (bytes_at holds paths.orders) (bytes_at holds paths.script) (bytes_at holds paths.case)
+    three (table_at holds paths.orders) (bytes_at holds paths.script) (bytes_at holds paths.case)
 memory_refuses commands.Draw paths number holds = one (bytes_at holds paths.script)
 memory_refuses commands.DrawFound paths number holds =
-    three (bytes_at holds paths.params) (bytes_at holds paths.orders) (bytes_at holds paths.script)
+    three (bytes_at holds paths.params) (table_at holds paths.orders) (bytes_at holds paths.script)
 
 has_files : (command : Command) (request : Request) (holds : Held) (before after : ReadCounts) (option : List ℕ)
     → request.command ≡ command → HasUnreadable (files_of request) holds before after option → HasFiles command
 has_files commands.BuiltIn request holds before after option is h = rw is at h
+has_files commands.Orders request holds before after option is h = rw is at h
 has_files commands.Show request holds before after option is h = tt
 has_files commands.ShowMessage request holds before after option is h = tt
 has_files commands.Judge request holds before after option is h = tt

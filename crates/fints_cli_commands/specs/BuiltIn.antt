@@ -1,5 +1,6 @@
--- The texts that the program checks with no words.
+-- The texts that the program has: those that it checks with no words, and an order table.
 use Rattle.std.specs.Prelude.{ℕ, List, codes}
+use Rattle.fints_cli_commands.specs.declared.built_in.TheConstants.{ALL_ORDERS}
 
 unfoldable pub capture : List ℕ
 capture =
@@ -13,3 +14,7 @@ orders =
 unfoldable pub script : List ℕ
 script =
     codes "[[step]]\nname = \"end\"\nsegments = [{kind = \"HKEND\", version = 1, elements = [\"$dialog\"]}]\n"
+
+-- the order table that `orders` prints, and that is taken where none is named
+unfoldable pub all_orders : List ℕ
+all_orders = ALL_ORDERS.now

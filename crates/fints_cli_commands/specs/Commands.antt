@@ -12,7 +12,7 @@ use Rattle.fints_cli_words.specs.declared.requests.Command.TheVariants as comman
 use Rattle.fints_cli_words.specs.declared.requests.Paths.{Paths}
 use Rattle.fints_cli_words.specs.declared.requests.Request.{Request}
 use Rattle.fints_cli_commands.specs.BuiltIn as built_in
-use Rattle.fints_cli_commands.specs.Loading.{Held, bytes_at}
+use Rattle.fints_cli_commands.specs.Loading.{Held, bytes_at, table_at}
 use Rattle.fints_cli_texts.specs.Show.{IsShowOf, IsMemoryOrShowFault}
 use Rattle.fints_cli_texts.specs.ShowMessage.{IsShownMessage}
 use Rattle.fints_cli_texts.specs.Judge.{IsVerdictOf, IsMessageRefusal, IsJudgeRefusal}
@@ -57,17 +57,17 @@ IfAll a b c P = IfSome a (λ p. IfSome b (λ q. IfSome c (λ r. P p q r)))
 -- this holds of the capture, the order table and the script
 abbrev pub OfScript : Held → Paths → (List ℕ → List ℕ → List ℕ → Type 0) → Type 0
 OfScript holds paths P =
-    IfAll (bytes_at holds paths.params) (bytes_at holds paths.orders) (bytes_at holds paths.script) P
+    IfAll (bytes_at holds paths.params) (table_at holds paths.orders) (bytes_at holds paths.script) P
 
 -- this holds of the capture, the order table and the message
 abbrev pub OfMessage : Held → Paths → (List ℕ → List ℕ → List ℕ → Type 0) → Type 0
 OfMessage holds paths P =
-    IfAll (bytes_at holds paths.params) (bytes_at holds paths.orders) (bytes_at holds paths.message) P
+    IfAll (bytes_at holds paths.params) (table_at holds paths.orders) (bytes_at holds paths.message) P
 
 -- this holds of the capture, the order table and the recorded dialogue
 abbrev pub OfDialogue : Held → Paths → (List ℕ → List ℕ → List ℕ → Type 0) → Type 0
 OfDialogue holds paths P =
-    IfAll (bytes_at holds paths.params) (bytes_at holds paths.orders) (bytes_at holds paths.dialogue) P
+    IfAll (bytes_at holds paths.params) (table_at holds paths.orders) (bytes_at holds paths.dialogue) P
 
 -- this holds of the recorded dialogue
 abbrev pub OfRecording : Held → Paths → (List ℕ → Type 0) → Type 0
@@ -75,12 +75,12 @@ OfRecording holds paths P = IfSome (bytes_at holds paths.dialogue) P
 
 -- this holds of the order table and the recorded dialogue
 abbrev pub OfOwnDialogue : Held → Paths → (List ℕ → List ℕ → Type 0) → Type 0
-OfOwnDialogue holds paths P = IfBoth (bytes_at holds paths.orders) (bytes_at holds paths.dialogue) P
+OfOwnDialogue holds paths P = IfBoth (table_at holds paths.orders) (bytes_at holds paths.dialogue) P
 
 -- this holds of the order table, the script and the case
 abbrev pub OfCase : Held → Paths → (List ℕ → List ℕ → List ℕ → Type 0) → Type 0
 OfCase holds paths P =
-    IfAll (bytes_at holds paths.orders) (bytes_at holds paths.script) (bytes_at holds paths.case) P
+    IfAll (table_at holds paths.orders) (bytes_at holds paths.script) (bytes_at holds paths.case) P
 
 -- what `explain` prints: the cases of all findings, or that of the one of a number
 abbrev pub cases_wanted : Option ℕ → Wanted
@@ -91,6 +91,7 @@ cases_wanted (Some number) = OneCase number
 abbrev pub AnswersBy : Command → Paths → Option ℕ → Held → ℕ → List ℕ → Type 0
 AnswersBy BuiltIn paths number holds status text =
     IsToldOf Report built_in.capture built_in.orders built_in.script status text
+AnswersBy commands.Orders paths number holds status text = (status ≡ 0) × (text ≡ built_in.all_orders)
 AnswersBy Show paths number holds status text =
     (status ≡ 0) × IfSome (bytes_at holds paths.shown) (λ capture. IsShowOf capture text)
 AnswersBy ShowMessage paths number holds status text =
@@ -138,6 +139,7 @@ AnswersTo request holds status text = AnswersBy request.command request.paths re
 abbrev pub RefusesBy : Command → Paths → Option ℕ → Held → Fault → Type 0
 RefusesBy BuiltIn paths number holds fault =
     IsTellRefusal Report built_in.capture built_in.orders built_in.script fault
+RefusesBy commands.Orders paths number holds fault = fault ≡ Memory
 RefusesBy Show paths number holds fault =
     IfSome (bytes_at holds paths.shown) (λ capture. IsMemoryOrShowFault capture fault)
 RefusesBy ShowMessage paths number holds fault =
@@ -182,6 +184,7 @@ RefusesRequest request holds fault = RefusesBy request.command request.paths req
 -- a command that reads files may have one that couldn't be read
 abbrev pub HasFiles : Command → Type 0
 HasFiles BuiltIn = ⊥
+HasFiles commands.Orders = ⊥
 HasFiles _ = Unit {0}
 
 -- why the request has no answer; `Loading` says which files may be answered as unread

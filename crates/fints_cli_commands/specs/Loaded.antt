@@ -12,14 +12,26 @@ use Rattle.fints_cli_files.specs.declared.reading.LoadFault.TheVariants as load_
 use Rattle.fints_cli_texts.specs.declared.fault.Fault.TheVariants.{Memory}
 use Rattle.fints_cli_commands.specs.declared.failing.Failure.{Failure}
 use Rattle.fints_cli_commands.specs.declared.failing.Failure.TheVariants.{Input, Unread}
+use Rattle.fints_cli_commands.specs.BuiltIn.{all_orders}
 use Rattle.fints_cli_commands.specs.declared.loading.Contents.{Contents}
-use Rattle.fints_cli_commands.specs.Loading.{Held, NamedFile, AreWithin, FollowsReading, bytes_at}
+use Rattle.fints_cli_commands.specs.declared.loading.TableText.{TableText}
+use Rattle.fints_cli_commands.specs.declared.loading.TableText.TheVariants as tables
+use Rattle.fints_cli_commands.specs.Loading.{Held, NamedFile, AreWithin, FollowsReading, bytes_at, table_at}
 use Rattle.fints_cli_words.specs.declared.requests.Input.{Input as InputName}
 use Rattle.fints_cli_words.specs.declared.requests.Paths.{Paths}
 
 -- the bytes are those of the file; without a path there are none
 abbrev pub IsFileAt : Option (Bor (List ℕ)) → Held → List ℕ → Type 0
 IsFileAt path holds bytes = IsFile (bytes_at holds path) bytes
+
+-- the text of an order table that was loaded
+abbrev pub table_text : TableText → List ℕ
+table_text tables.BuiltIn = all_orders
+table_text (tables.Read bytes) = bytes.items
+
+-- it is that of the order table's file; without a path it is the one that the program has
+abbrev pub IsTableAt : Option (Bor (List ℕ)) → Held → TableText → Type 0
+IsTableAt path holds table = IsFile (table_at holds path) (table_text table)
 
 -- the file of the path was read so
 abbrev pub IsReadAt : {T : Type 0} → (List ℕ → T → Type 0) → Option (Bor (List ℕ)) → Held → T → Type 0
@@ -30,7 +42,7 @@ pub record IsLoaded (paths : Paths) (holds : Held) (capture : Result Rows ParamF
     : Type 0 where
   pub shown : IsReadAt IsBothReadOf paths.shown holds contents.shown.told
   pub params : IsReadAt IsReadOf paths.params holds capture
-  pub orders : IsFileAt paths.orders holds contents.orders.items
+  pub orders : IsTableAt paths.orders holds contents.orders
   pub script : IsFileAt paths.script holds contents.script.items
   pub case : IsFileAt paths.case holds contents.case.items
   pub certificate : IsFileAt paths.certificate holds contents.certificate.items

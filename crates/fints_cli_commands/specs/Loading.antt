@@ -1,6 +1,7 @@
 -- Which files a request reads, and why one of them couldn't be read.
 use Rattle.std.specs.Prelude.{◌≡◌, ◌≤◌, ◌⊎◌, ◌++◌, ℕ, List, [], ◌∷◌, length, Option, None, Some, IfSome, codes}
 use Rattle.std.specs.Borrow.{Bor}
+use Rattle.fints_cli_commands.specs.BuiltIn.{all_orders}
 use Rattle.fints_cli_commands.specs.declared.failing.Failure.{Failure}
 use Rattle.fints_cli_commands.specs.declared.failing.Failure.TheVariants.{Input, Unread}
 use Rattle.fints_cli_files.specs.Streams.{ReadCounts}
@@ -19,6 +20,11 @@ Held = List ℕ → Option (List ℕ)
 abbrev pub bytes_at : Held → Option (Bor (List ℕ)) → Option (List ℕ)
 bytes_at holds None = Some []
 bytes_at holds (Some path) = holds path.now
+
+-- those of an order table; where none is named, it is the one that the program has
+abbrev pub table_at : Held → Option (Bor (List ℕ)) → Option (List ℕ)
+table_at holds None = Some all_orders
+table_at holds (Some path) = holds path.now
 
 -- the paths of what a request reads
 abbrev pub paths_of : Request → Paths

@@ -1,6 +1,8 @@
 //! What each command answers with reasons, of what was loaded of its files.
 ghost use Rattle.std.specs.Prelude.{◌≡◌, ◌≤◌, ◌++◌, ℕ, List, [], IfOk, IfErr, string_bytes};
 ghost use Rattle.fints_params.specs.Captures.{IsReadOf, IsBothReadOf};
+ghost use Rattle.fints_cli_commands.specs.BuiltIn.{all_orders};
+ghost use Rattle.fints_cli_commands.specs.Loaded.{table_text};
 ghost use Rattle.fints_cli_commands.specs.Notes.{secrets_note, IsDraftWithNote, IsNoteOfLog};
 ghost use Rattle.fints_cli_drafts.specs.Drafts.{IsDraftRefusal};
 ghost use Rattle.fints_cli_drawings.specs.Drawn.{no_orders, IsDrawnOf, IsPictureOf};
@@ -16,6 +18,7 @@ ghost use Rattle.fints_cli_texts.specs.JudgeAfter.{IsJudgeAfterRefusal, IsVerdic
 ghost use Rattle.fints_cli_texts.specs.Show.{IsMemoryOrShowFault, IsShowOf};
 ghost use Rattle.fints_cli_texts.specs.ShowMessage.{IsShownMessage};
 
+use crate::built_in::all_orders;
 use crate::failing::Refused;
 use crate::loading::Contents;
 use crate::reasons::Reasons;
@@ -94,6 +97,19 @@ fn note_of(
     }
 }
 
+/// The order table that is taken where none is named.
+pub fn answer_orders(alloc: Global) -> Result<Answered, Refused>
+    ensures status { IfOk result (λ it. it.reply.status ≡ 0) }
+    ensures text { IfOk result (λ it. it.reply.text.items ≡ all_orders) }
+    ensures note { IfOk result (λ it. string_bytes it.note ≡ []) }
+    ensures refused { IfErr result (λ r. r.fault ≡ faults.Memory) }
+{
+    match all_orders().to_vec(alloc) {
+        Ok(text) => Ok(text_only(alloc, text)),
+        Err(AllocError) => Err(Refused::from(Fault::Memory)),
+    }
+}
+
 /// What a capture says. Its notes look at the bytes again, since its reader passes over what it skips.
 pub fn answer_show(alloc: Global, contents: &Contents, hints: bool) -> Result<Answered, Refused>
     ensures status { IfOk result (λ it. it.reply.status ≡ 0) }
@@ -125,11 +141,11 @@ pub fn answer_judge(
 ) -> Result<Answered, Refused>
     ensures status { IfOk result (λ it. it.reply.status ≤ 1) }
     ensures judged { IfOk result (λ it. (capture : List ℕ) → IsReadOf capture params
-        → IsVerdictOf capture contents.now.orders.items contents.now.message.items
+        → IsVerdictOf capture (table_text contents.now.orders) contents.now.message.items
         it.reply.status it.reply.text.items) }
     ensures note { IfOk result (λ it. string_bytes it.note ≡ []) }
     ensures refused { IfErr result (λ r. (capture : List ℕ) → IsReadOf capture params
-        → IsJudgeRefusal capture contents.now.orders.items contents.now.message.items r.fault) }
+        → IsJudgeRefusal capture (table_text contents.now.orders) contents.now.message.items r.fault) }
 {
     let Contents {
         orders,
@@ -165,11 +181,11 @@ pub fn answer_judge_after(
 ) -> Result<Answered, Refused>
     ensures status { IfOk result (λ it. it.reply.status ≤ 1) }
     ensures judged { IfOk result (λ it. (capture : List ℕ) → IsReadOf capture params
-        → IsVerdictAfter capture contents.now.orders.items contents.now.before.items
+        → IsVerdictAfter capture (table_text contents.now.orders) contents.now.before.items
         contents.now.answer.items contents.now.message.items it.reply.status it.reply.text.items) }
     ensures note { IfOk result (λ it. string_bytes it.note ≡ []) }
     ensures refused { IfErr result (λ r. (capture : List ℕ) → IsReadOf capture params
-        → IsJudgeAfterRefusal capture contents.now.orders.items contents.now.before.items
+        → IsJudgeAfterRefusal capture (table_text contents.now.orders) contents.now.before.items
         contents.now.answer.items contents.now.message.items r.fault) }
 {
     let mut reasons = JudgeReasons::new(alloc, hints, contents.capture.as_slice());
@@ -203,11 +219,11 @@ pub fn answer_audit(
 ) -> Result<Answered, Refused>
     ensures status { IfOk result (λ it. it.reply.status ≤ 1) }
     ensures audited { IfOk result (λ it. (capture : List ℕ) → IsReadOf capture params
-        → IsAuditOf capture contents.now.orders.items contents.now.dialogue.items
+        → IsAuditOf capture (table_text contents.now.orders) contents.now.dialogue.items
         it.reply.status it.reply.text.items) }
     ensures note { IfOk result (λ it. IsLogNote hints contents.now.dialogue.items (string_bytes it.note)) }
     ensures refused { IfErr result (λ r. (capture : List ℕ) → IsReadOf capture params
-        → IsAuditRefusal capture contents.now.orders.items contents.now.dialogue.items r.fault) }
+        → IsAuditRefusal capture (table_text contents.now.orders) contents.now.dialogue.items r.fault) }
 {
     let log = log_of(alloc, contents);
     let source = Source::Capture(contents.capture.as_slice());
@@ -238,11 +254,11 @@ pub fn answer_audit_own(
     hints: bool,
 ) -> Result<Answered, Refused>
     ensures status { IfOk result (λ it. it.reply.status ≤ 1) }
-    ensures audited { IfOk result (λ it. IsOwnAuditOf contents.now.orders.items contents.now.dialogue.items
-        it.reply.status it.reply.text.items) }
+    ensures audited { IfOk result (λ it. IsOwnAuditOf (table_text contents.now.orders)
+        contents.now.dialogue.items it.reply.status it.reply.text.items) }
     ensures note { IfOk result (λ it. IsLogNote hints contents.now.dialogue.items (string_bytes it.note)) }
     ensures refused { IfErr result (λ r.
-        IsOwnAuditRefusal contents.now.orders.items contents.now.dialogue.items r.fault) }
+        IsOwnAuditRefusal (table_text contents.now.orders) contents.now.dialogue.items r.fault) }
 {
     let log = log_of(alloc, contents);
     let mut reasons = AuditReasons::new(alloc, hints, Source::Answers);
@@ -269,11 +285,11 @@ pub fn answer_check(
 ) -> Result<Answered, Refused>
     ensures status { IfOk result (λ it. it.reply.status ≤ 1) }
     ensures told { IfOk result (λ it. (capture : List ℕ) → IsReadOf capture params
-        → IsToldOf wanted capture contents.now.orders.items contents.now.script.items
+        → IsToldOf wanted capture (table_text contents.now.orders) contents.now.script.items
         it.reply.status it.reply.text.items) }
     ensures note { IfOk result (λ it. string_bytes it.note ≡ []) }
     ensures refused { IfErr result (λ r. (capture : List ℕ) → IsReadOf capture params
-        → IsTellRefusal wanted capture contents.now.orders.items contents.now.script.items r.fault) }
+        → IsTellRefusal wanted capture (table_text contents.now.orders) contents.now.script.items r.fault) }
 {
     let Contents { orders, script, .. } = contents;
     let mut reasons = ReportReasons::new(alloc, hints, contents.capture.as_slice());
@@ -301,11 +317,11 @@ pub fn answer_draw(
 ) -> Result<Answered, Refused>
     ensures status { IfOk result (λ it. it.reply.status ≤ 1) }
     ensures drawn { IfOk result (λ it. (capture : List ℕ) → IsReadOf capture params
-        → IsDrawnOf capture contents.now.orders.items contents.now.script.items
+        → IsDrawnOf capture (table_text contents.now.orders) contents.now.script.items
         it.reply.status it.reply.text.items) }
     ensures note { IfOk result (λ it. string_bytes it.note ≡ []) }
     ensures refused { IfErr result (λ r. (capture : List ℕ) → IsReadOf capture params
-        → IsRefused capture contents.now.orders.items contents.now.script.items r.fault) }
+        → IsRefused capture (table_text contents.now.orders) contents.now.script.items r.fault) }
 {
     let Contents { orders, script, .. } = contents;
     let mut reasons = ReportReasons::new(alloc, hints, contents.capture.as_slice());
@@ -332,11 +348,11 @@ pub fn answer_verify(
 ) -> Result<Answered, Refused>
     ensures status { IfOk result (λ it. it.reply.status ≤ 1) }
     ensures told { IfOk result (λ it. (capture : List ℕ) → IsReadOf capture params
-        → IsVerifiedOf capture contents.now.orders.items contents.now.script.items
+        → IsVerifiedOf capture (table_text contents.now.orders) contents.now.script.items
         contents.now.certificate.items it.reply.status it.reply.text.items) }
     ensures note { IfOk result (λ it. string_bytes it.note ≡ []) }
     ensures refused { IfErr result (λ r. (capture : List ℕ) → IsReadOf capture params
-        → IsUnverified capture contents.now.orders.items contents.now.script.items
+        → IsUnverified capture (table_text contents.now.orders) contents.now.script.items
         contents.now.certificate.items r.fault) }
 {
     let mut reason = VerifyReason::new(alloc, hints);
@@ -418,10 +434,10 @@ pub fn answer_draft(
     hints: bool,
 ) -> Result<Answered, Refused>
     ensures status { IfOk result (λ it. it.reply.status ≡ 0) }
-    ensures drafted { IfOk result (λ it. IsDraftWithNote hints drafted number contents.now.orders.items
+    ensures drafted { IfOk result (λ it. IsDraftWithNote hints drafted number (table_text contents.now.orders)
         contents.now.dialogue.items it.reply.text.items (string_bytes it.note)) }
     ensures refused { IfErr result (λ r.
-        IsDraftRefusal contents.now.orders.items number contents.now.dialogue.items r.fault) }
+        IsDraftRefusal (table_text contents.now.orders) number contents.now.dialogue.items r.fault) }
 {
     let table = contents.orders.as_slice();
     let log = log_of(alloc, contents);
@@ -446,10 +462,10 @@ pub fn answer_run(
     message: Option<u32>,
 ) -> Result<Answered, Refused>
     ensures status { IfOk result (λ it. it.reply.status ≡ 0) }
-    ensures run { IfOk result (λ it. IsRunOf contents.now.orders.items contents.now.script.items
+    ensures run { IfOk result (λ it. IsRunOf (table_text contents.now.orders) contents.now.script.items
         contents.now.case.items message it.reply.text.items) }
     ensures note { IfOk result (λ it. string_bytes it.note ≡ []) }
-    ensures refused { IfErr result (λ r. IsRunRefusal contents.now.orders.items
+    ensures refused { IfErr result (λ r. IsRunRefusal (table_text contents.now.orders)
         contents.now.script.items contents.now.case.items message r.fault) }
 {
     let Contents {

@@ -11,8 +11,8 @@ ghost use Rattle.fints_cli_commands.specs.Commands.{cases_wanted, failure_status
 
 use crate::answering::{
     Answered, answer_audit, answer_audit_own, answer_check, answer_draft, answer_draw,
-    answer_draw_script, answer_judge, answer_judge_after, answer_record, answer_run, answer_show,
-    answer_show_message, answer_verify,
+    answer_draw_script, answer_judge, answer_judge_after, answer_orders, answer_record, answer_run,
+    answer_show, answer_show_message, answer_verify,
 };
 use crate::built_in;
 use crate::failing::{Refusal, Refused, refusal_of};
@@ -80,6 +80,7 @@ fn answer(
                 reasons: None,
             })
         }
+        Command::Orders => answer_orders(alloc),
         Command::Show => answer_show(alloc, contents, hints),
         Command::ShowMessage => answer_show_message(alloc, contents, hints),
         Command::Judge => answer_judge(alloc, params, contents, hints),

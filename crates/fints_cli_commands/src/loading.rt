@@ -3,9 +3,11 @@ ghost use Rattle.std.specs.Prelude.{◌≡◌, IfOk, IfErr};
 ghost use Rattle.fints_cli_commands.specs.Commands.{HintsIfAsked};
 ghost use Rattle.fints_cli_commands.specs.Loading.{file_at, files_at};
 ghost use Rattle.fints_cli_commands.specs.Loading as loading;
-ghost use Rattle.fints_cli_commands.specs.Loaded.{AreRead, IsFileAt, IsLoaded, IsOneUnread, IsReadAt};
+ghost use Rattle.fints_cli_commands.specs.Loaded.{AreRead, IsFileAt, IsLoaded, IsOneUnread, IsReadAt, IsTableAt, table_text};
 ghost use Rattle.fints_cli_files.specs.Captures.{HoldsCapture};
+ghost use Rattle.fints_cli_words.specs.declared.requests.Input.TheVariants as inputs;
 
+use crate::built_in::all_orders;
 use crate::failing::{Refusal, unread};
 use fints_cli_files::{Capture, Files, ReadCapture, load, load_into};
 use fints_cli_hints::Inputs;
@@ -31,13 +33,34 @@ pub fn paths_of<'a>(request: &Request<'a>) -> Paths<'a>
     }
 }
 
-/// What was read of a capture that is shown, and the bytes of the other files; empty where there is no path.
+/// The text of an order table.
+#[derive(Drop)]
+pub enum TableText {
+    /// The one that the program has.
+    BuiltIn,
+    /// The bytes of a file.
+    Read(Vec<u8>),
+}
+
+impl TableText {
+    pub fn as_slice(&self) -> &[u8]
+        ensures { result.now ≡ table_text self.now }
+    {
+        match self {
+            TableText::BuiltIn => all_orders(),
+            TableText::Read(bytes) => bytes.as_slice(),
+        }
+    }
+}
+
+/// What was read of a capture that is shown, and the bytes of the other files; empty where there is no path, but for
+/// the order table.
 #[derive(Drop)]
 pub struct Contents {
     pub shown: ReadCapture<ParamsAndCodes>,
     /// Those of a capture by which something is judged: empty where no hint may need them.
     pub capture: Vec<u8>,
-    pub orders: Vec<u8>,
+    pub orders: TableText,
     pub script: Vec<u8>,
     pub case: Vec<u8>,
     pub certificate: Vec<u8>,
@@ -102,6 +125,29 @@ fn load_option<F: Files>(
     }
 }
 
+// Loads the file of an order table; without a path it is the one that the program has.
+fn load_table<F: Files>(
+    alloc: Global,
+    files: &mut F,
+    path: Option<&str>,
+    hints: bool,
+) -> Result<TableText, Refusal>
+    ensures loaded { IfOk result (IsTableAt path.entry (F.holds files.old)) }
+    ensures read { IfOk result (λ _. AreRead (file_at inputs.Orders path.entry)
+        (F.holds files.old) (F.holds files.new) (F.reads files.old) (F.reads files.new)) }
+    ensures unread { IfErr result (λ r. IsOneUnread (file_at inputs.Orders path.entry)
+        (F.holds files.old) (F.holds files.new) (F.reads files.old) (F.reads files.new) r.failure) }
+    ensures unasked { IfErr result (λ r. HintsIfAsked hints r) }
+{
+    let Some(path) = path else {
+        return Ok(TableText::BuiltIn);
+    };
+    match load(alloc, files, path, Input::Orders.limit()) {
+        Ok(bytes) => Ok(TableText::Read(bytes)),
+        Err(fault) => Err(unread(alloc, Input::Orders, path, fault, hints)),
+    }
+}
+
 // Loads the file of a capture, where it has a path, and reads it as it comes. Its bytes are kept
 // where a hint may need them.
 fn load_capture<F: Files>(
@@ -147,7 +193,7 @@ pub fn load_all<F: Files>(
     let shown_read: ReadCapture<ParamsAndCodes> = shown.end();
     let capture = load_capture(alloc, files, Input::Params, paths.params, hints)?;
     let read: ReadCapture<Params> = capture.end();
-    let orders = load_option(alloc, files, Input::Orders, paths.orders, hints)?;
+    let orders = load_table(alloc, files, paths.orders, hints)?;
     let script = load_option(alloc, files, Input::Script, paths.script, hints)?;
     let case = load_option(alloc, files, Input::Case, paths.case, hints)?;
     let certificate = load_option(alloc, files, Input::Certificate, paths.certificate, hints)?;

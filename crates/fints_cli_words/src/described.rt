@@ -35,10 +35,10 @@ pub enum Choice {
     Either(Input, &'static str),
     /// A file that goes with that of another option, so that both are given or neither.
     Beside(Input, &'static str, Input),
-    /// What is either given or not: the name of the option, and what the help says of it.
-    Flag(&'static str, &'static str),
+    /// What is either given or not: the name of the option, another name where it has one, and what the help says of it.
+    Flag(&'static str, Option<&'static str>, &'static str),
     /// A number.
-    Number(&'static str, &'static str),
+    Number(&'static str, Option<&'static str>, &'static str),
 }
 
 const PARAMS: Choice = Choice::File(Input::Params, "The capture");
@@ -91,20 +91,22 @@ const OTHER_PARAMS: Choice = Choice::Optional(
 
 const OTHER_ORDERS: Choice = Choice::Optional(
     Input::Orders,
-    "The order table: the script says which orders name an account",
+    "The order table, in place of the one that orders prints",
 );
 
 const REPLAYING: Choice = Choice::Flag(
-    "case",
+    "print-case",
+    Some("case"),
     "The case that sends the recorded messages, with PIN and TAN",
 );
 
-const PART: Choice = Choice::Number("part", "Only dialogue N of the recording");
+const PART: Choice = Choice::Number("part", None, "Only dialogue N of the recording");
 
-const SENT: Choice = Choice::Number("message", "Only the bytes of message N");
+const SENT: Choice = Choice::Number("number", Some("message"), "Only the bytes of message N");
 
 const FINDING: Choice = Choice::Number(
     "finding",
+    None,
     "Only the case of finding N: those of all may be hundreds of megabytes",
 );
 
@@ -121,7 +123,7 @@ pub struct Described {
 }
 
 /// The commands.
-pub const COMMANDS: [Described; 11] = [
+pub const COMMANDS: [Described; 12] = [
     Described {
         name: "show",
         command: Command::Show,
@@ -138,7 +140,7 @@ pub const COMMANDS: [Described; 11] = [
         name: "audit",
         command: Command::Audit,
         about: "Names the rules that the messages of a recorded dialogue break",
-        options: &[OTHER_PARAMS, ORDERS, DIALOGUE],
+        options: &[OTHER_PARAMS, OTHER_ORDERS, DIALOGUE],
     },
     Described {
         name: "record",
@@ -187,5 +189,11 @@ pub const COMMANDS: [Described; 11] = [
         command: Command::Draw,
         about: "Draws the steps and branches of a script in DOT, and the rules that some run breaks",
         options: &[WITH_PARAMS, WITH_ORDERS, SCRIPT],
+    },
+    Described {
+        name: "orders",
+        command: Command::Orders,
+        about: "Prints the order table that audit and draft take where none is named",
+        options: &[],
     },
 ];

@@ -10,6 +10,8 @@ use fints_syntax_texts::MAX_TEXT;
 pub enum Command {
     /// The report of the built-in texts.
     BuiltIn,
+    /// The order table that the program has.
+    Orders,
     /// What a capture says.
     Show,
     /// The segments of a message, without its secrets.
@@ -114,7 +116,7 @@ impl Command {
         ensures { result ≡ requests.reads self input }
     {
         match self {
-            Command::BuiltIn => false,
+            Command::BuiltIn | Command::Orders => false,
             Command::Show => matches!(input, Input::Shown),
             Command::ShowMessage => matches!(input, Input::Message),
             Command::Judge => matches!(input, Input::Params | Input::Orders | Input::Message),

@@ -42,6 +42,14 @@ fn flag_option<'a>(alloc: Global, name: &'a str, help: &'a str) -> Arg<'a> {
         .action(ArgAction::SetTrue)
 }
 
+// The option, which has another name too where one is given.
+fn also_named<'a>(option: Arg<'a>, other: Option<&'a str>) -> Result<Arg<'a>, AllocError> {
+    match other {
+        Some(name) => option.visible_alias(name),
+        None => Ok(option),
+    }
+}
+
 fn option<'a>(alloc: Global, choice: &Choice) -> Result<Arg<'a>, AllocError> {
     match choice {
         Choice::File(input, help) => { Ok(file_option(alloc, input.option(), help).required(true)) }
@@ -51,8 +59,8 @@ fn option<'a>(alloc: Global, choice: &Choice) -> Result<Arg<'a>, AllocError> {
         Choice::Beside(input, help, other) => {
             beside_option(alloc, input.option(), help, other.option())
         }
-        Choice::Flag(name, help) => Ok(flag_option(alloc, name, help)),
-        Choice::Number(name, help) => Ok(number_option(alloc, name, help)),
+        Choice::Flag(name, other, help) => also_named(flag_option(alloc, name, help), *other),
+        Choice::Number(name, other, help) => also_named(number_option(alloc, name, help), *other),
     }
 }
 
@@ -91,11 +99,14 @@ fn hints_option<'a>(alloc: Global) -> Arg<'a> {
         .action(ArgAction::SetTrue)
 }
 
+// The version of the program, and the kit that proved it: `tools/release.sh` compares this with what `rt version` prints.
+const VERSION: &str = "0.2.0 (rattle-kit-13f)";
+
 // The program, but for its commands.
 fn program<'a>(alloc: Global) -> Result<Clap<'a>, AllocError> {
     Clap::new(alloc, "fints")
         .bin_name("fints")?
-        .version("0.1.0")
+        .version(VERSION)
         .about("Checks FinTS 3.0 dialogue scripts")
         .after_help(ABOUT_FILES)
         .no_binary_name(true)
@@ -150,7 +161,7 @@ fn paths_in<'a>(options: &ArgMatches<'a>) -> Paths<'a> {
 // The number that an option of the command gives.
 fn number_in(described: &Described, options: &ArgMatches<'_>) -> Option<u32> {
     for choice in described.options {
-        if let Choice::Number(name, _) = choice {
+        if let Choice::Number(name, ..) = choice {
             return options.get_one::<u32>(name);
         }
     }
@@ -163,7 +174,7 @@ fn chosen(command: Command, paths: &Paths<'_>, options: &ArgMatches<'_>) -> Comm
         Command::Show if paths.message.is_some() => Command::ShowMessage,
         Command::Judge if paths.before.is_some() => Command::JudgeAfter,
         Command::Audit if paths.params.is_none() => Command::AuditOwn,
-        Command::Draft if options.get_flag("case") => Command::DraftCase,
+        Command::Draft if options.get_flag("print-case") => Command::DraftCase,
         Command::Draw if paths.params.is_some() => Command::DrawFound,
         _ => command,
     }

@@ -14,6 +14,7 @@ use Rattle.fints_cli_texts.specs.JudgeAfter.{IsJudgeAfterRefusal, IsVerdictAfter
 use Rattle.fints_cli_texts.specs.Show.{IsMemoryOrShowFault}
 use Rattle.fints_cli_words.specs.declared.requests.Command.TheVariants as commands
 use Rattle.fints_cli_commands.specs.Commands.{IfBoth, cases_wanted}
+use Rattle.fints_cli_commands.specs.Loaded.{table_text}
 use Rattle.fints_cli_commands.specs.Loading.{bytes_at}
 use Rattle.fints_cli_commands.proofs.OfRequest as of_request
 use Rattle.fints_cli_commands.proofs.Notes.{from_both}
@@ -53,7 +54,7 @@ returns-in-JudgeAfter-clause-answers c =
     (λ x y z. IfBoth (bytes_at holds request.paths.before) (bytes_at holds request.paths.answer)
     (λ b a. IsVerdictAfter x y b a z it.reply.status it.reply.text.items))
     refl refl refl (λ bytes read. of_request.of_both
-    (λ b a. IsVerdictAfter bytes c.args.contents.now.orders.items b a c.args.contents.now.message.items it.reply.status it.reply.text.items)
+    (λ b a. IsVerdictAfter bytes (table_text c.args.contents.now.orders) b a c.args.contents.now.message.items it.reply.status it.reply.text.items)
     _ _ _ _ before answer (h bytes read))))
     c.answer_judge_after.ensures.judged
 
@@ -67,7 +68,7 @@ returns-in-JudgeAfter-clause-refused c =
     (λ x y z. IfBoth (bytes_at holds request.paths.before) (bytes_at holds request.paths.answer)
     (λ b a. IsJudgeAfterRefusal x y b a z refused.fault))
     refl refl refl (λ bytes read. of_request.of_both
-    (λ b a. IsJudgeAfterRefusal bytes c.args.contents.now.orders.items b a c.args.contents.now.message.items refused.fault)
+    (λ b a. IsJudgeAfterRefusal bytes (table_text c.args.contents.now.orders) b a c.args.contents.now.message.items refused.fault)
     _ _ _ _ before answer (h bytes read))))
     c.answer_judge_after.ensures.refused
 
@@ -135,7 +136,7 @@ returns-in-Verify-clause-answers c =
     of_request.of_script request holds _ _ loaded commands.Verify c.in-Verify.is
     (λ x y z. IfSome (bytes_at holds request.paths.certificate) (λ t. IsVerifiedOf x y z t it.reply.status it.reply.text.items))
     refl refl refl (λ bytes read. of_file
-    (λ t. IsVerifiedOf bytes c.args.contents.now.orders.items c.args.contents.now.script.items t it.reply.status it.reply.text.items)
+    (λ t. IsVerifiedOf bytes (table_text c.args.contents.now.orders) c.args.contents.now.script.items t it.reply.status it.reply.text.items)
     _ _ lines (h bytes read))))
     c.answer_verify.ensures.told
 
@@ -147,7 +148,7 @@ returns-in-Verify-clause-refused c =
     of_request.of_script request holds _ _ loaded commands.Verify c.in-Verify.is
     (λ x y z. IfSome (bytes_at holds request.paths.certificate) (λ t. IsUnverified x y z t refused.fault))
     refl refl refl (λ bytes read. of_file
-    (λ t. IsUnverified bytes c.args.contents.now.orders.items c.args.contents.now.script.items t refused.fault)
+    (λ t. IsUnverified bytes (table_text c.args.contents.now.orders) c.args.contents.now.script.items t refused.fault)
     _ _ lines (h bytes read))))
     c.answer_verify.ensures.refused
 
@@ -256,7 +257,7 @@ pub returns-in-Draft-clause-answers : goal.returns-in-Draft-clause-answers
 returns-in-Draft-clause-answers c =
     from_both c.answer_draft.result (λ it. it.reply.status ≡ 0)
     (λ it. IsDraftWithNote c.args.request.now.hints drafts.Script c.args.request.now.number
-    c.args.contents.now.orders.items c.args.contents.now.dialogue.items it.reply.text.items (string_bytes it.note))
+    (table_text c.args.contents.now.orders) c.args.contents.now.dialogue.items it.reply.text.items (string_bytes it.note))
     _ (λ it zero h holds loaded. rw c.in-Draft.is (
       zero,
       of_request.of_own_dialogue c.args.request.now holds _ _ loaded commands.Draft c.in-Draft.is
@@ -281,7 +282,7 @@ pub returns-in-DraftCase-clause-answers : goal.returns-in-DraftCase-clause-answe
 returns-in-DraftCase-clause-answers c =
     from_both c.answer_draft-in-DraftCase.result (λ it. it.reply.status ≡ 0)
     (λ it. IsDraftWithNote c.args.request.now.hints drafts.Case c.args.request.now.number
-    c.args.contents.now.orders.items c.args.contents.now.dialogue.items it.reply.text.items (string_bytes it.note))
+    (table_text c.args.contents.now.orders) c.args.contents.now.dialogue.items it.reply.text.items (string_bytes it.note))
     _ (λ it zero h holds loaded. rw c.in-DraftCase.is (
       zero,
       of_request.of_own_dialogue c.args.request.now holds _ _ loaded commands.DraftCase c.in-DraftCase.is
