@@ -38,7 +38,5 @@ keeps_offered orders recording lists all most script keeps = record {
   fields = All-weaker (IsDraftField (AreOffered lists)) (IsDraftField (AreAccounts orders recording))
       (field_offered orders recording lists all) script.fields keeps.fields;
   signers = keeps.signers;
-  signer_names = keeps.signer_names;
   steps = keeps.steps;
-  step_names = keeps.step_names;
 }

@@ -179,15 +179,19 @@ IsStepName most step =
 abbrev pub IsDraftField : (List (List (List ℕ)) → Type 0) → NamedField → Type 0
 IsDraftField Lists f = IsFieldName f.name × IsDraftClass Lists f.class
 
+abbrev pub IsDraftSigner : Signer → Type 0
+IsDraftSigner signer = IsSignerName signer × HasBlankPin signer
+
+unfoldable pub IsDraftStep : ℕ → StepValue → Type 0
+IsDraftStep most step = IsStepName most step × All HasBlankNewPin step.templates
+
 -- PIN, TAN and new PIN are values of fields, and the last elements of their segments; and no name and no field's
 -- bounds come from a recorded value
 pub record KeepsSecrets (Lists : List (List (List ℕ)) → Type 0) (most : ℕ) (script : ScriptValue)
     : Type 0 where
   pub fields : All (IsDraftField Lists) script.fields
-  pub signers : All HasBlankPin script.signers
-  pub signer_names : All IsSignerName script.signers
-  pub steps : All (λ step. All HasBlankNewPin step.templates) script.steps
-  pub step_names : All (IsStepName most) script.steps
+  pub signers : All IsDraftSigner script.signers
+  pub steps : All (IsDraftStep most) script.steps
 
 -- a field with the bounds of a secret
 abbrev pub is_secret_field : NamedField → Bool

@@ -3,11 +3,13 @@ ghost use Rattle.std.specs.Prelude.{◌≡◌, [], IsTrue, get_or};
 ghost use Rattle.std.specs.Char.{is_ascii_alphanumeric};
 ghost use Rattle.std.specs.List.{All, list_all, list_any};
 ghost use Rattle.fints_cli_drafts_accounts.specs.Offers.{AreOffered};
-ghost use Rattle.fints_cli_drafts.specs.Drafts.{HasBlankNewPin, HasBlankPin, IsBlank, IsDraftClass, IsDraftField, IsLastBlank, IsReference, KeepsSecrets, has_secret, is_digits, is_draft_text, is_latin, is_secret_field};
+ghost use Rattle.fints_cli_drafts.specs.Drafts.{HasBlankNewPin, HasBlankPin, IsBlank, IsDraftClass, IsDraftField, IsDraftSigner, IsDraftStep, IsLastBlank, IsReference, KeepsSecrets, has_secret, is_digits, is_draft_text, is_latin, is_secret_field};
 
 use crate::names::{is_field_name, is_signer_named, is_step_named};
 use fints_cli_drafts_accounts::{AccountList, are_offered};
-use fints_script::{Field, NamedField, Script, Signer, Template, TemplateElements, TemplateItem};
+use fints_script::{
+    Field, NamedField, Script, Signer, Step, Template, TemplateElements, TemplateItem,
+};
 use fints_script_fields::{Alphabet, Text};
 
 // Whether an item is a field, or empty.
@@ -127,6 +129,36 @@ fn is_draft_field(lists: &[AccountList], field: &NamedField) -> bool
     is_field_name(field.name.as_bytes()) && is_draft_class(lists, &field.class)
 }
 
+fn is_draft_signer(signer: &Signer) -> bool
+    ensures { IsTrue result → IsDraftSigner signer.now }
+{
+    is_signer_named(signer) && has_blank_pin(signer)
+}
+
+fn is_draft_step(step: &Step, most: usize) -> bool
+    ensures { IsTrue result → IsDraftStep most step.now }
+{
+    is_step_named(step, most) && are_blank_new_pins(step.templates())
+}
+
+fn are_draft_fields(lists: &[AccountList], fields: &[NamedField]) -> bool
+    ensures { IsTrue result → All (IsDraftField (AreOffered lists.now)) fields.now }
+{
+    fields.iter().all(|field| is_draft_field(lists, field))
+}
+
+fn are_draft_signers(signers: &[Signer]) -> bool
+    ensures { IsTrue result → All IsDraftSigner signers.now }
+{
+    signers.iter().all(is_draft_signer)
+}
+
+fn are_draft_steps(steps: &[Step], most: usize) -> bool
+    ensures { IsTrue result → All (IsDraftStep most) steps.now }
+{
+    steps.iter().all(|step| is_draft_step(step, most))
+}
+
 fn is_secret_field(field: &NamedField) -> bool
     ensures { result ≡ is_secret_field field.now }
 {
@@ -150,15 +182,11 @@ pub fn has_secret(script: &Script) -> bool
 pub fn keeps_secrets(lists: &[AccountList], most: usize, script: &Script) -> bool
     ensures { IsTrue result → KeepsSecrets (AreOffered lists.now) most script.now }
 {
-    script
-        .fields()
-        .iter()
-        .all(|field| is_draft_field(lists, field))
-        && script.signers().iter().all(has_blank_pin)
-        && script.signers().iter().all(is_signer_named)
-        && script
-            .steps()
-            .iter()
-            .all(|step| are_blank_new_pins(step.templates()))
-        && script.steps().iter().all(|step| is_step_named(step, most))
+    if !are_draft_fields(lists, script.fields()) {
+        return false;
+    }
+    if !are_draft_signers(script.signers()) {
+        return false;
+    }
+    are_draft_steps(script.steps(), most)
 }
