@@ -1,5 +1,5 @@
 //! The formats of SEPA orders: `pain.001.001.03`, as it is in a longer name.
-use fints_syntax::OwnedSegment;
+use crate::sent::Segment;
 
 /// How many bytes a format has.
 const LEN: usize = 15;
@@ -49,11 +49,11 @@ pub fn format_in(value: &[u8]) -> Option<Format> {
 }
 
 /// The element in which a SEPA order names its format; none for another order, or in another version.
-pub fn format_element(order: &OwnedSegment) -> Option<usize> {
-    if order.head.version != 1 {
+pub fn format_element(order: &Segment<'_>) -> Option<usize> {
+    if order.version() != 1 {
         return None;
     }
-    let id = order.head.id;
+    let id = order.kind();
     let one = [
         b"HKCCS", b"HKIPZ", b"HKCUM", b"HKDSE", b"HKDSC", b"HKBSE", b"HKCSE", b"HKCSA", b"HKCDE",
         b"HKCDN",

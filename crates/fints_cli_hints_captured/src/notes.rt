@@ -1,8 +1,8 @@
-//! The notes on a message, by what a capture says.
+//! The notes on a message or a step, by what a capture says.
 use fints_syntax::Memory;
 use std::alloc::Global;
 
-/// Which note it is. Each is written once, in a dialogue or of a message.
+/// Which note it is. Each is written once: in a dialogue, of a message, or of a script.
 #[derive(Clone, Copy)]
 pub enum Which {
     Unlisted,
@@ -57,7 +57,7 @@ impl Noted {
     }
 }
 
-/// The notes on a message, and what it is called there: with a colon and a blank after it, or nothing.
+/// The notes on a message or a step, and what it is called there: with a colon and a blank after it, or nothing.
 #[derive(Drop)]
 pub struct Notes<'n> {
     pub alloc: Global,

@@ -1,13 +1,15 @@
-//! Which notes there are on a message, by what a capture says.
-use crate::captured::{Captured, days_between};
+//! Which notes there are on a message or a step, by what a capture says.
+use crate::captured::{Captured, Lengths, days_between};
 use crate::formats::{Format, bytes_of, format_element, format_in};
 use crate::lists::{Ascii, Numbers};
 use crate::notes::{Noted, Notes, Which};
 use crate::procedures::Procedure;
-use crate::signed::{date_of, first_of, function_of, has};
+use crate::sent::{Segment, Sent};
+use crate::spans::Span;
 use fints_cli_hints_words::places::written;
-use fints_rules::{Message, Permissions};
-use fints_syntax::{Kind, Memory, OwnedSegment};
+use fints_rules::kinds::is_plain_order;
+use fints_rules::{Demand, Permissions};
+use fints_syntax::{Kind, Memory};
 use std::alloc::Global;
 
 // The function that asks for no TAN procedure: one step.
@@ -24,6 +26,23 @@ fn functions_of(alloc: Global, procedures: &[Procedure]) -> Result<Vec<u32>, Mem
     functions.sort_unstable();
     functions.dedup();
     Ok(functions)
+}
+
+// That the bank allows the user other functions.
+fn add_not_allowed(
+    notes: &mut Notes<'_>,
+    which: Which,
+    allowed: &[u32],
+    function: u32,
+) -> Result<(), Memory> {
+    let allowed = Numbers(allowed);
+    let what = written(
+        notes.alloc,
+        format_args!(
+            "element 3 of HNSHK is {function}, and the bank allows the user {allowed} (code 3920)"
+        ),
+    )?;
+    notes.add(which, what.as_str())
 }
 
 // That the procedure isn't listed, or not allowed to the user.
@@ -48,40 +67,59 @@ fn add_function(
         return notes.add(Which::Unlisted, what.as_str());
     }
     if !allowed.is_empty() && !allowed.contains(&function) {
-        let allowed = Numbers(allowed);
-        let what = written(
-            notes.alloc,
-            format_args!(
-                "element 3 of HNSHK is {function}, and the bank allows the user {allowed} (code 3920)"
-            ),
-        )?;
-        return notes.add(Which::NotAllowed, what.as_str());
+        return add_not_allowed(notes, Which::NotAllowed, allowed, function);
     }
     Ok(())
 }
 
-// That an order demands a TAN, and goes in one step where the bank takes none so.
-fn add_one_step(
-    notes: &mut Notes<'_>,
-    captured: &Captured,
-    permissions: &Permissions<'_>,
-    message: &Message<'_>,
-) -> Result<(), Memory> {
-    if !captured.two_steps {
-        return Ok(());
-    }
-    for order in message.body() {
-        let kind = order.id();
+// The first kind of the body that demands a TAN.
+fn demanding_kind(permissions: &Permissions<'_>, sent: &Sent<'_>) -> Option<Kind> {
+    for place in 0..sent.body_len() {
+        let kind = sent.kind(place)?;
         if permissions.is_demanding(kind) {
-            let kind = Ascii(kind.as_bytes());
-            let what = written(
-                notes.alloc,
-                format_args!(
-                    "element 3 of HNSHK is 999, {kind} demands a TAN (HIPINS), and each HITANS says N to one step"
-                ),
-            )?;
-            return notes.add(Which::OneStep, what.as_str());
+            return Some(kind);
         }
+    }
+    None
+}
+
+// Whether HIPINS lists an order of the body that doesn't go in one step always. HKTAN is none: HIPINS may
+// list it, and it is in initialisations too.
+fn has_order(permissions: &Permissions<'_>, sent: &Sent<'_>) -> bool {
+    (0..sent.body_len()).any(|place| match sent.kind(place) {
+        Some(kind) => {
+            let is_free = kind.is(b"HKTAB") || kind.is(b"HKPAE") || !is_plain_order(kind);
+            !is_free && !matches!(permissions.demand(kind), Demand::Unlisted)
+        }
+        None => false,
+    })
+}
+
+// Whether the bank has allowed the user some functions before, and one step is none of them. What it allows
+// since the dialogue began may be more.
+fn is_disallowed(basis: &Basis<'_>) -> bool {
+    let has_one_step = |functions: &[u32]| functions.contains(&ONE_STEP);
+    !basis.earlier.is_empty() && !has_one_step(basis.earlier) && !has_one_step(basis.allowed)
+}
+
+// That an order goes in one step, where it demands a TAN and the bank takes none so, or where the bank has
+// allowed the user TAN procedures only.
+fn add_one_step(notes: &mut Notes<'_>, basis: &Basis<'_>, sent: &Sent<'_>) -> Result<(), Memory> {
+    let demanding = demanding_kind(basis.permissions, sent);
+    if basis.captured.two_steps
+        && let Some(kind) = demanding
+    {
+        let kind = Ascii(kind.as_bytes());
+        let what = written(
+            notes.alloc,
+            format_args!(
+                "element 3 of HNSHK is 999, {kind} demands a TAN (HIPINS), and each HITANS says N to one step"
+            ),
+        )?;
+        return notes.add(Which::OneStep, what.as_str());
+    }
+    if is_disallowed(basis) && has_order(basis.permissions, sent) {
+        return add_not_allowed(notes, Which::OneStep, basis.earlier, ONE_STEP);
     }
     Ok(())
 }
@@ -101,12 +139,10 @@ fn version_of(captured: &Captured, function: u32) -> u16 {
 fn add_initialisation(
     notes: &mut Notes<'_>,
     captured: &Captured,
-    message: &Message<'_>,
+    sent: &Sent<'_>,
     function: u32,
 ) -> Result<(), Memory> {
-    let is_initialisation = has(message, b"HKIDN")
-        && has(message, b"HKVVB")
-        && !has(message, b"HKSYN");
+    let is_initialisation = sent.has(b"HKIDN") && sent.has(b"HKVVB") && !sent.has(b"HKSYN");
     let is_late = captured
         .procedures
         .iter()
@@ -127,23 +163,29 @@ fn add_initialisation(
 // ---- HKTAN
 
 // The kind of the first segment of the body that is no HKTAN.
-fn other_kind(message: &Message<'_>) -> Option<Kind> {
-    let other = message.body().iter().find(|it| !it.id().is(b"HKTAN"))?;
-    Some(other.id())
+fn other_kind(sent: &Sent<'_>) -> Option<Kind> {
+    for place in 0..sent.body_len() {
+        let kind = sent.kind(place)?;
+        if !kind.is(b"HKTAN") {
+            return Some(kind);
+        }
+    }
+    None
+}
+
+// The kind that an HKTAN names in element 3.
+fn kind_in(order: &Segment<'_>) -> Option<Kind> {
+    Kind::parse(order.value(3, 1)?)
 }
 
 // That element 3 names an order that the message doesn't hold.
-fn add_named(
-    notes: &mut Notes<'_>,
-    message: &Message<'_>,
-    order: &OwnedSegment,
-) -> Result<(), Memory> {
-    let (Some(named), Some(held)) = (Kind::parse(order.value(3, 1)), other_kind(message)) else {
+fn add_named(notes: &mut Notes<'_>, sent: &Sent<'_>, order: &Segment<'_>) -> Result<(), Memory> {
+    let (Some(named), Some(held)) = (kind_in(order), other_kind(sent)) else {
         return Ok(());
     };
     let is_order = named.as_bytes().starts_with(b"HK") || named.as_bytes().starts_with(b"DK");
-    let is_checked = has(message, b"HKVPP") || has(message, b"HKVPA");
-    if is_order && !is_checked && !has(message, named.as_bytes()) {
+    let is_checked = sent.has(b"HKVPP") || sent.has(b"HKVPA");
+    if is_order && !is_checked && !sent.has(named.as_bytes()) {
         let (named, held) = (Ascii(named.as_bytes()), Ascii(held.as_bytes()));
         let what = written(
             notes.alloc,
@@ -158,13 +200,14 @@ fn add_named(
 fn add_medium(
     notes: &mut Notes<'_>,
     captured: &Captured,
-    message: &Message<'_>,
-    order: &OwnedSegment,
+    sent: &Sent<'_>,
+    order: &Segment<'_>,
     function: u32,
 ) -> Result<(), Memory> {
-    let version = order.head.version;
+    let version = order.version();
     let needed = captured.needs_medium(function, version);
-    if needed && order.value(12, 1).is_empty() && !has(message, b"HKIDN") {
+    let is_empty = order.value(12, 1).is_some_and(|it| it.is_empty());
+    if needed && is_empty && !sent.has(b"HKIDN") {
         let what = written(
             notes.alloc,
             format_args!(
@@ -180,11 +223,11 @@ fn add_medium(
 fn add_tan_order(
     notes: &mut Notes<'_>,
     captured: &Captured,
-    message: &Message<'_>,
-    order: &OwnedSegment,
+    sent: &Sent<'_>,
+    order: &Segment<'_>,
     function: u32,
 ) -> Result<(), Memory> {
-    let version = order.head.version;
+    let version = order.version();
     if captured.readable && captured.lists(function) && !captured.lists_in(function, version) {
         let listed = version_of(captured, function);
         let what = written(
@@ -196,10 +239,10 @@ fn add_tan_order(
         notes.add(Which::OtherVersion, what.as_str())?;
     }
     let is_late = version == 6 || version == 7;
-    if is_late && order.value(2, 1) == b"4".as_slice() {
-        add_named(notes, message, order)?;
+    if is_late && order.value(2, 1) == Some(b"4".as_slice()) {
+        add_named(notes, sent, order)?;
         if captured.readable {
-            add_medium(notes, captured, message, order, function)?;
+            add_medium(notes, captured, sent, order, function)?;
         }
     }
     Ok(())
@@ -219,18 +262,18 @@ fn lists_format(captured: &Captured, parameter: &[u8], format: Format) -> bool {
 fn add_format(
     notes: &mut Notes<'_>,
     captured: &Captured,
-    order: &OwnedSegment,
+    order: &Segment<'_>,
 ) -> Result<(), Memory> {
     let Some(element) = format_element(order) else {
         return Ok(());
     };
-    let Some(format) = format_in(order.value(element.max(2), 1)) else {
+    let Some(format) = format_in(order.value(element, 1).unwrap_or(&[])) else {
         return Ok(());
     };
     let Some(listed) = captured.formats.iter().find(|it| it.0.is(b"HISPAS")) else {
         return Ok(());
     };
-    let kind = order.head.id;
+    let kind = order.kind();
     let own = parameter_of(kind);
     if lists_format(captured, b"HISPAS", format) || lists_format(captured, &own, format) {
         return Ok(());
@@ -259,9 +302,9 @@ fn parameter_of(kind: Kind) -> [u8; 6] {
 }
 
 // The element of an order for turnover that has its first day, and the kind of its parameter segment.
-fn first_day_of(order: &OwnedSegment) -> Option<(usize, &'static [u8])> {
-    let version = order.head.version;
-    if order.head.id.is(b"HKKAZ") && (5..=7).contains(&version) {
+fn first_day_of(order: &Segment<'_>) -> Option<(usize, &'static [u8])> {
+    let version = order.version();
+    if order.kind().is(b"HKKAZ") && (5..=7).contains(&version) {
         return Some((4, b"HIKAZS"));
     }
     if order.is_named(b"HKCAZ", 1) {
@@ -274,23 +317,25 @@ fn first_day_of(order: &OwnedSegment) -> Option<(usize, &'static [u8])> {
 fn add_days(
     notes: &mut Notes<'_>,
     captured: &Captured,
-    order: &OwnedSegment,
-    opener: &OwnedSegment,
+    order: &Segment<'_>,
+    opener: &Segment<'_>,
 ) -> Result<(), Memory> {
     let Some((element, parameter)) = first_day_of(order) else {
         return Ok(());
     };
-    let first = order.value(element.max(2), 1);
-    let Some(days) = days_between(first, opener.value(9, 2)) else {
+    let (Some(first), Some(date)) = (order.value(element, 1), opener.value(9, 2)) else {
         return Ok(());
     };
-    let Some(kept) = captured.days(parameter, order.head.version) else {
+    let Some(days) = days_between(first, date) else {
+        return Ok(());
+    };
+    let Some(kept) = captured.days(parameter, order.version()) else {
         return Ok(());
     };
     if days <= kept.saturating_add(1) {
         return Ok(());
     }
-    let kind = order.head.id;
+    let kind = order.kind();
     let (kind, limit) = (Ascii(kind.as_bytes()), Ascii(parameter));
     let first = Ascii(first);
     let what = written(
@@ -302,17 +347,24 @@ fn add_days(
     notes.add(Which::TooOld, what.as_str())
 }
 
-fn add_orders(
-    notes: &mut Notes<'_>,
-    captured: &Captured,
-    message: &Message<'_>,
-) -> Result<(), Memory> {
-    let Some(opener) = date_of(notes.alloc, message)? else {
+// The order at a place of the body.
+fn order_at<'s>(
+    alloc: Global,
+    sent: &Sent<'s>,
+    place: usize,
+) -> Result<Option<Segment<'s>>, Memory> {
+    match sent.kind(place) {
+        Some(kind) if kind.as_bytes().starts_with(b"HK") => sent.segment(alloc, place),
+        _ => Ok(None),
+    }
+}
+
+fn add_orders(notes: &mut Notes<'_>, captured: &Captured, sent: &Sent<'_>) -> Result<(), Memory> {
+    let Some(opener) = sent.opener(notes.alloc, 0)? else {
         return Ok(());
     };
-    for order in message.body() {
-        if order.id().as_bytes().starts_with(b"HK") {
-            let order = order.to_owned(notes.alloc)?;
+    for place in 0..sent.body_len() {
+        if let Some(order) = order_at(notes.alloc, sent, place)? {
             add_format(notes, captured, &order)?;
             add_days(notes, captured, &order, &opener)?;
         }
@@ -347,22 +399,30 @@ fn add_long(notes: &mut Notes<'_>, name: &str, most: u32) -> Result<(), Memory> 
     notes.add(Which::TooLong, what.as_str())
 }
 
+// An empty PIN is left out of it, so that a field is short only where none of its values is empty.
+fn add_pin_length(notes: &mut Notes<'_>, lengths: Lengths, pin: Span) -> Result<(), Memory> {
+    if 0 < pin.least && pin.most < lengths.least_pin as usize {
+        add_short(notes, lengths.least_pin)?;
+    }
+    if 0 < lengths.most_pin && pin.least > lengths.most_pin as usize {
+        add_long(notes, "PIN", lengths.most_pin)?;
+    }
+    Ok(())
+}
+
 // That a PIN or a TAN has a length that HIPINS excludes; nothing else is said of it.
 fn add_lengths(
     notes: &mut Notes<'_>,
     captured: &Captured,
-    end: &OwnedSegment,
+    end: &Segment<'_>,
 ) -> Result<(), Memory> {
     let Some(lengths) = captured.lengths else {
         return Ok(());
     };
-    let (pin, tan) = (end.value(4, 1).len(), end.value(4, 2).len());
-    if 0 < pin && pin < lengths.least_pin as usize {
-        add_short(notes, lengths.least_pin)?;
+    if let Some(pin) = end.span(4, 1) {
+        add_pin_length(notes, lengths, pin)?;
     }
-    if 0 < lengths.most_pin && pin > lengths.most_pin as usize {
-        add_long(notes, "PIN", lengths.most_pin)?;
-    }
+    let tan = end.span(4, 2).map_or(0, |it| it.least);
     let is_long = 0 < lengths.most_tan && tan > lengths.most_tan as usize;
     if is_long && is_beyond_procedures(captured, tan) {
         add_long(notes, "TAN", lengths.most_tan)?;
@@ -372,63 +432,64 @@ fn add_lengths(
 
 // ---- all notes
 
-/// By what a message is noted.
+/// By what a message or a step is noted.
 #[derive(Clone, Copy)]
 pub struct Basis<'b> {
     pub captured: &'b Captured,
     /// The functions that the last feedback 3920 allowed the user; none where there was none.
     pub allowed: &'b [u32],
+    /// Those of the last feedback 3920 before the dialogue began.
+    pub earlier: &'b [u32],
     pub permissions: &'b Permissions<'b>,
 }
 
 fn add_by_function(
     notes: &mut Notes<'_>,
     basis: &Basis<'_>,
-    message: &Message<'_>,
+    sent: &Sent<'_>,
     function: u32,
 ) -> Result<(), Memory> {
     let captured = basis.captured;
     if captured.readable {
         add_function(notes, captured, basis.allowed, function)?;
         if function == ONE_STEP {
-            add_one_step(notes, captured, basis.permissions, message)?;
+            add_one_step(notes, basis, sent)?;
         }
     }
-    match first_of(message, b"HKTAN") {
-        Some(order) => {
-            let order = order.to_owned(notes.alloc)?;
-            add_tan_order(notes, captured, message, &order, function)
-        }
-        None if captured.readable => add_initialisation(notes, captured, message, function),
+    let place = sent.place_of(b"HKTAN").unwrap_or(sent.body_len());
+    match sent.segment(notes.alloc, place)? {
+        Some(order) => add_tan_order(notes, captured, sent, &order, function),
+        None if captured.readable => add_initialisation(notes, captured, sent, function),
         None => Ok(()),
     }
 }
 
-fn add_all(notes: &mut Notes<'_>, basis: &Basis<'_>, message: &Message<'_>) -> Result<(), Memory> {
-    let Some(function) = function_of(notes.alloc, message)? else {
+fn add_all(notes: &mut Notes<'_>, basis: &Basis<'_>, sent: &Sent<'_>) -> Result<(), Memory> {
+    let Some(function) = sent.function(notes.alloc)? else {
         return Ok(());
     };
-    add_by_function(notes, basis, message, function)?;
-    add_orders(notes, basis.captured, message)?;
-    for end in message.ends() {
-        let end = end.to_owned(notes.alloc)?;
-        add_lengths(notes, basis.captured, &end)?;
+    add_by_function(notes, basis, sent, function)?;
+    add_orders(notes, basis.captured, sent)?;
+    for place in 0..sent.ends() {
+        if let Some(end) = sent.end(notes.alloc, place)? {
+            add_lengths(notes, basis.captured, &end)?;
+        }
     }
     Ok(())
 }
 
-/// Adds the notes on a message that is signed by PIN and TAN, where they weren't written before. `called` is
-/// what the message is called, with a colon and a blank after it, or nothing.
+/// Adds the notes on what is signed by PIN and TAN, where they weren't written before. `called` is what it is
+/// called, with a colon and a blank after it, or nothing.
 pub fn add_captured_notes(
     text: &mut String,
     alloc: Global,
     called: &str,
     noted: &mut Noted,
     basis: &Basis<'_>,
-    message: &Message<'_>,
+    sent: &Sent<'_>,
 ) -> Result<(), Memory> {
     let mut notes = Notes::new(alloc, called, *noted);
-    add_all(&mut notes, basis, message)?;
+    add_all(&mut notes, basis, sent)?;
     let (lines, told) = notes.into_parts();
     text.push_str(lines.as_str())?;
     *noted = told;

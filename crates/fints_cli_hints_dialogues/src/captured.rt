@@ -1,12 +1,14 @@
 //! The notes on the messages of a recording, by what its parameters and the bank's answers say.
+use crate::parties::{Party, party_in};
 use crate::sources::Capture;
-use fints_cli_hints_captured::{Basis, Captured, Noted, Said, add_captured_notes, said_in};
+use fints_cli_hints_captured::{Basis, Captured, Noted, Said, Sent, add_captured_notes, said_in};
 use fints_cli_hints_words::places::written;
 use fints_rules::{Message, Permissions};
 use fints_rules_dialogues::{Answer, Exchange};
 use fints_syntax::{Memory, OwnedSegment};
 use std::alloc::Global;
 use std::collections::BTreeMap;
+use std::mem;
 
 /// What was noted of a dialogue, and what the bank has said in it.
 #[derive(Drop)]
@@ -16,8 +18,12 @@ pub struct CapturedNotes {
     noted: Noted,
     // Whether the note on an order reference was written.
     referred: bool,
-    // The functions that the last feedback 3920 allows the user.
+    // Whose the dialogue is, where its first message says it.
+    party: Option<Party>,
+    // The functions that the last feedback 3920 of the dialogue allows the user.
     allowed: Vec<u32>,
+    // Those of the last one before the dialogue, of each party.
+    earlier: BTreeMap<Party, Vec<u32>>,
     // The HITAN that give order references.
     references: Vec<OwnedSegment>,
 }
@@ -38,17 +44,46 @@ impl CapturedNotes {
             captured: BTreeMap::new(alloc),
             noted: Noted::none(),
             referred: false,
+            party: None,
             allowed: Vec::new(alloc),
+            earlier: BTreeMap::new(alloc),
             references: Vec::new(alloc),
         }
     }
 
-    // Begins another dialogue.
-    fn begin(&mut self) {
+    // Keeps the functions that the dialogue so far allows its user.
+    fn keep_allowed(&mut self, alloc: Global) -> Result<(), Memory> {
+        let allowed = mem::replace(&mut self.allowed, Vec::new(alloc));
+        if let Some(party) = self.party.take()
+            && !allowed.is_empty()
+        {
+            self.earlier.insert(party, allowed)?;
+        }
+        Ok(())
+    }
+
+    // Begins another dialogue, by its first message.
+    fn begin(&mut self, alloc: Global, message: &Message<'_>) -> Result<(), Memory> {
+        self.keep_allowed(alloc)?;
+        self.party = party_in(alloc, message)?;
         self.noted = Noted::none();
         self.referred = false;
-        self.allowed.clear();
         self.references.clear();
+        Ok(())
+    }
+
+    // The functions that the user was allowed before the dialogue began: in an earlier one of the party, or
+    // else in the capture that was handed in.
+    fn allowed_before<'a>(&'a self, source: Capture<'_>, captured: &'a Captured) -> &'a [u32] {
+        let earlier = match &self.party {
+            Some(party) => self.earlier.get(party),
+            None => None,
+        };
+        match earlier {
+            Some(allowed) => allowed.as_slice(),
+            None if source.is_handed_in() => captured.allowed.as_slice(),
+            None => &[],
+        }
     }
 
     // Whether the bank gave order references in this dialogue, and none is that of the HKTAN.
@@ -87,10 +122,14 @@ impl CapturedNotes {
         let basis = Basis {
             captured,
             allowed: self.allowed.as_slice(),
+            earlier: self.allowed_before(source, captured),
             permissions,
         };
-        let noted = &mut self.noted;
-        add_captured_notes(text, alloc, called.as_str(), noted, &basis, message)
+        let mut noted = self.noted;
+        let sent = Sent::Message(message);
+        add_captured_notes(text, alloc, called.as_str(), &mut noted, &basis, &sent)?;
+        self.noted = noted;
+        Ok(())
     }
 
     // Adds the note on an order reference that the bank didn't give.
@@ -142,7 +181,7 @@ impl CapturedNotes {
         exchange: &Exchange<'_>,
     ) -> Result<(), Memory> {
         if exchange.begins {
-            self.begin();
+            self.begin(alloc, &exchange.message)?;
         }
         self.add_message(text, alloc, place, source, permissions, &exchange.message)?;
         if let Some(order) = tan_order(alloc, &exchange.message)? {

@@ -6,6 +6,7 @@
 mod captured;
 mod lost;
 mod notes;
+mod parties;
 mod reasons;
 mod refused;
 mod sources;

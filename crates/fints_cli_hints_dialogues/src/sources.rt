@@ -17,6 +17,13 @@ pub struct Capture<'c> {
 // No answer of a recording is there.
 const NOWHERE: usize = usize::MAX;
 
+impl Capture<'_> {
+    /// Whether it is no answer of the recording: it was handed in, or is empty.
+    pub fn is_handed_in(&self) -> bool {
+        self.place == NOWHERE
+    }
+}
+
 /// Where the parameters of an audit were read.
 #[derive(Clone, Copy)]
 pub enum Source<'c> {

@@ -7,7 +7,7 @@ use crate::lines::{Where, add_why};
 use crate::segment::{Seen, SegmentWhy};
 use crate::tans::NoTan;
 use crate::whole::{Before, Whole, WholeWhy, is_of_whole};
-use fints_cli_hints_captured::{Basis, Captured, Noted, add_captured_notes};
+use fints_cli_hints_captured::{Basis, Captured, Noted, Sent, add_captured_notes};
 use fints_cli_hints_segments::UnreadHint;
 use fints_cli_hints_words::places::Told;
 use fints_cli_texts::JudgeObserver;
@@ -199,11 +199,13 @@ fn with_captured_notes(
     let basis = Basis {
         captured: &captured,
         allowed: captured.allowed.as_slice(),
+        earlier: captured.allowed.as_slice(),
         permissions,
     };
     let mut text = reasons.unwrap_or_else(|| String::new(alloc));
     let mut noted = Noted::none();
-    add_captured_notes(&mut text, alloc, "", &mut noted, &basis, message)?;
+    let sent = Sent::Message(message);
+    add_captured_notes(&mut text, alloc, "", &mut noted, &basis, &sent)?;
     Ok(Some(text))
 }
 

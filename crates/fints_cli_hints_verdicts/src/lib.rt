@@ -3,6 +3,7 @@
 //! than that each call returns safely.
 #![tactic(auto)]
 
+mod captured;
 mod notes;
 mod report;
 mod steps;

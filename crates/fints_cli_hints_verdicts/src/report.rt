@@ -1,4 +1,5 @@
 //! Why the runs of a script break the rules that a report names.
+use crate::captured::add_captured;
 use crate::notes::add_notes;
 use crate::steps::{figures_of, step_at};
 use fints_check::{Finding, Report};
@@ -247,11 +248,12 @@ fn lines_of(alloc: Global, capture: &[u8], report: &Report<'_>) -> Result<String
         add_findings(&mut text, alloc, &bank, report)?;
     }
     add_notes(&mut text, alloc, report)?;
+    add_captured(&mut text, alloc, capture, report)?;
     Ok(text)
 }
 
 /// The reasons of a report: a line for each finding, in its order: why some run breaks the rule, and what
-/// to change; and then the notes on the script. None where they aren't wanted.
+/// to change; and then the notes on the script, last those by what the capture says. None where they aren't wanted.
 #[derive(Drop)]
 pub struct ReportReasons<'c> {
     alloc: Global,
