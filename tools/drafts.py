@@ -4,11 +4,17 @@ program, of a recording with several dialogues from each of them, runs them, and
 was recorded, segment by segment: byte for byte but for what a client makes new for each message. No string of the
 script may be the value of a secret, and each comment is a fixed one, or an XML text that the segment after it has.
 Each is drafted without an order table and with that of all orders. With it each account that a field lists is one of
-the user's, and no run of the draft of a permitted dialogue breaks P8 or P9 by the bank's own answer. Each raw recording
-is drafted once more with other secrets of the same kinds and sizes: the script is the same.
+the user's. Each raw recording is drafted once more with other secrets of the same kinds and sizes: the script is the same.
 
-Usage: tools/drafts.py
+Where `audit` says that no rule is broken, `check` must say `clean` of the draft. It is asked for each message, also of
+one dialogue of several: a step whose message breaks no rule has no finding. Where answers tell different parameters, the
+draft is checked by each of them, and a finding counts at the steps whose messages are judged by these. Where the
+recording has no parameters of the bank, those of `examples/dialogue` are taken for both. It isn't asked where `audit`
+refuses the recording, or finds something in each message.
+
+Usage: tools/drafts.py [--program PATH]
 """
+import argparse
 import pathlib
 import re
 import subprocess
@@ -21,7 +27,7 @@ from recordings import segments as texts_of
 from rows import lay_out, read_rows
 
 TOP = pathlib.Path(__file__).resolve().parent.parent
-PROGRAM = pathlib.Path("/tmp/rowsb_dbg")
+PROGRAM = TOP / "crates" / "fints" / "out" / "fints"
 ORDERS = TOP / "rows" / "inputs" / "orders.toml"
 ALL_ORDERS = TOP / "examples" / "orders-all.toml"
 BANK = TOP / "examples" / "dialogue" / "bank.fints"
@@ -340,6 +346,10 @@ def is_replayed(path, room, words, numbers, own, cleans):
 
 
 def main():
+    global PROGRAM
+    given = argparse.ArgumentParser(description=__doc__, formatter_class=argparse.RawDescriptionHelpFormatter)
+    given.add_argument("--program", type=pathlib.Path, default=PROGRAM, metavar="PATH")
+    PROGRAM = given.parse_args().program.resolve()
     if not PROGRAM.exists():
         sys.exit(f"drafts: {PROGRAM} isn't built")
     counts, cleans = {True: 0, False: 0, None: 0}, {True: 0, False: 0, None: 0}

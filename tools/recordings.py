@@ -237,12 +237,9 @@ def recording(seed):
     for _ in range(rng.randrange(1, 4)):
         parameters = [rng.choice(it) for it in (OTHER_BANKS, OTHER_USERS) if rng.random() < 0.7]
         messages += dialogue(rng, parameters)
-    if rng.random() < 0.5:
-        written = logged(rng, messages)
-        if random.Random(f"HAR {seed}").random() < 0.4:
-            file = in_har(rng, rng.choice([messages, messages, written]))
-        else:
-            file = in_file(rng, written)
+    is_log, is_har = rng.random() < 0.5, random.Random(f"HAR {seed}").random() < 0.2
+    if is_log or is_har:
+        file = in_har(rng, rng.choice([messages, messages, logged(rng, messages)])) if is_har else in_file(rng, logged(rng, messages))
         if rng.random() < 0.2:
             file = file[: rng.randrange(len(file) + 1)]
     else:
