@@ -216,7 +216,7 @@ def log(coded):
 
 
 def dialogues(of_banks):
-    """So many dialogues of two messages, the answer to the first one tells all parameters; with how many banks."""
+    """So many dialogues of two messages, the answer to the first one has all parameters; of so many banks."""
 
     def text(count):
         made = []
@@ -451,8 +451,8 @@ def measured(room):
         ("audit, a log of messages of 1 order", "messages", 1_000, audit(log(as_it_is))),
         ("audit, the same log in base64", "messages", 1_000, audit(log(as_base64))),
         ("audit, the same log in UTF-8", "messages", 1_000, audit(log(as_utf8))),
-        ("audit, dialogues of one bank that tell parameters", "dialogues", 250, audit_own(dialogues(lambda count: 1))),
-        ("audit, dialogues that tell parameters, each of a bank", "dialogues", 250, audit_own(dialogues(lambda count: count))),
+        ("audit, dialogues with parameters, of one bank", "dialogues", 250, audit_own(dialogues(lambda count: 1))),
+        ("audit, dialogues with parameters, each of another bank", "dialogues", 250, audit_own(dialogues(lambda count: count))),
         ("record, a log of messages of 1 order", "messages", 1_000, record(log(as_it_is))),
         ("record, messages of 1 order", "bytes", half, record(one)),
         ("record, messages of 1 order in base64", "bytes", half, record(in_lines(one))),

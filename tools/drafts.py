@@ -7,7 +7,7 @@ Each is drafted without an order table and with that of all orders. With it each
 the user's. Each raw recording is drafted once more with other secrets of the same kinds and sizes: the script is the same.
 
 Where `audit` says that no rule is broken, `check` must say `clean` of the draft. It is asked for each message, also of
-one dialogue of several: a step whose message breaks no rule has no finding. Where answers tell different parameters, the
+one dialogue of several: a step whose message breaks no rule has no finding. Where answers have different parameters, the
 draft is checked by each of them, and a finding counts at the steps whose messages are judged by these. Where the
 recording has no parameters of the bank, those of `examples/dialogue` are taken for both. It isn't asked where `audit`
 refuses the recording, or finds something in each message. One finding is let pass: P11 of a message that asks whether
@@ -274,7 +274,7 @@ def are_accounts_known(script, messages):
 
 
 def captures_of(dialogue):
-    """The capture by which `audit` judges each of the client's messages; None where no answer tells the bank's parameters."""
+    """The capture by which `audit` judges each of the client's messages; None where no answer has the bank's parameters."""
     exchanges = exchanges_of(dialogue)
     told = [texts_of(opened(answer or b"")) for _, answer in exchanges]
     of_user = [[it for it in all_of if is_of_user(it)] for all_of in told]
