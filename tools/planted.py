@@ -16,6 +16,7 @@ import argparse
 import base64
 import os
 import pathlib
+import random
 import subprocess
 import sys
 import tempfile
@@ -178,9 +179,10 @@ def main():
     parser = argparse.ArgumentParser(description=__doc__.split("\n", 1)[0])
     parser.add_argument("--program", type=pathlib.Path, default=TOP / "crates" / "fints" / "out" / "fints")
     parser.add_argument("--threads", type=int, default=os.cpu_count())
-    parser.add_argument("--every", type=int, default=1, metavar="N", help="break only each Nth of the messages")
+    parser.add_argument("--every", type=int, default=1, metavar="N", help="take one of N broken messages, drawn by lot, the same ones each time")
     words = parser.parse_args()
-    planted = list(broken_messages())[::words.every]
+    planted = list(broken_messages())
+    planted = random.Random(1).sample(planted, len(planted) // words.every)
     with tempfile.TemporaryDirectory() as name, ThreadPoolExecutor(words.threads) as pool:
         room = pathlib.Path(name)
         asked = partial(leaks, words.program.resolve(), room)
