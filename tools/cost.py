@@ -197,6 +197,41 @@ def in_utf8(make):
     return lambda size: make(size * 98 // 100).encode("utf-8").decode("latin-1")
 
 
+def as_it_is(text):
+    return text
+
+
+def as_base64(text):
+    return base64.b64encode(text.encode("latin-1")).decode()
+
+
+def as_utf8(text):
+    return text.encode("utf-8").decode("latin-1")
+
+
+def log(coded):
+    """A log of so many messages of an order and the answers to them, each coded so on a line of its own."""
+    texts = [coded(message([("HKSAL", "5+\xe4+N")])), coded(ANSWER)]
+    return lambda count: "".join(f"<DB2> [2026.01.05 09:15:02.010] {it}\n" for it in texts) * count
+
+
+def dialogues(of_banks):
+    """So many dialogues of two messages, the answer to the first one has all parameters; of so many banks."""
+
+    def text(count):
+        made = []
+        for i in range(count):
+            bank, user = f"280:{10020030 + i % of_banks(count)}", f"u{i % of_banks(count)}"
+            party = [("HKIDN", f"2+{bank}+{user}+0+1"), ("HKVVB", "3+0+0+0+fints+1")]
+            tells = [("HIBPA", f"3+12+{bank}+Bank+1+1+300+0"), ("HIPINS", "1+1+1+0+5:38:6:::HKSAL:N"), ("HISALS", "5+1+0")]
+            accounts = [("HIUPA", f"4+{user}+1+0"), ("HIUPD", f"6+9999999::280:1+DE1+{user}+1+EUR+N++++HKSAL:1")]
+            order = message([("HKSAL", "5+9999999+N")], 2)
+            made += [message(party), message([RECEIVED] + tells + accounts), order, message([RECEIVED], 2)]
+        return "".join(made)
+
+    return text
+
+
 def numbered(segments):
     """A dialogue of so many messages of these segments, which a script can send."""
     return lambda count: "".join(message(segments, i + 1) + ANSWER for i in range(count))
@@ -413,6 +448,12 @@ def measured(room):
         ("audit, messages of 1 order, the last answer tells parameters", "bytes", half, audit_own(told_last(orders(1)))),
         ("audit, messages of 1 order in base64", "bytes", half, audit(in_lines(one))),
         ("audit, messages of 1 order in UTF-8", "bytes", half, audit(in_utf8(recorded(message([("HKSAL", "5+\xe4+N")]))))),
+        ("audit, a log of messages of 1 order", "messages", 1_000, audit(log(as_it_is))),
+        ("audit, the same log in base64", "messages", 1_000, audit(log(as_base64))),
+        ("audit, the same log in UTF-8", "messages", 1_000, audit(log(as_utf8))),
+        ("audit, dialogues with parameters, of one bank", "dialogues", 250, audit_own(dialogues(lambda count: 1))),
+        ("audit, dialogues with parameters, each of another bank", "dialogues", 250, audit_own(dialogues(lambda count: count))),
+        ("record, a log of messages of 1 order", "messages", 1_000, record(log(as_it_is))),
         ("record, messages of 1 order", "bytes", half, record(one)),
         ("record, messages of 1 order in base64", "bytes", half, record(in_lines(one))),
         ("record, letters of base64", "bytes", half, record(lambda n: "SE5I" * (n // 4))),
@@ -538,6 +579,9 @@ def marked(room):
     judged = lambda make: lambda n: ["judge", "--params", C1, "--orders", ORDERS, "--message", room.file(make(n))]
     check = lambda make: lambda n: ["check", "--params", C1, "--orders", ORDERS, "--script", room.file(make(n))]
     told = lambda make: lambda n: ["show", "--message", room.file(make(n))]
+    audit = lambda make: lambda n: ["audit", "--params", C1, "--orders", ORDERS, "--dialogue", room.file(make(n))]
+    audit_own = lambda make: lambda n: ["audit", "--orders", ORDERS, "--dialogue", room.file(make(n))]
+    record = lambda make: lambda n: ["record", "--dialogue", room.file(make(n))]
     tabled = lambda make: lambda n: ["judge", "--params", C1, "--orders", room.file(make(n)), "--message", small]
     unread = lambda make: lambda n: "unread = 1\n" + make(n)
     of_toml = lambda label, words, make: (label, MOST_TEXT // 2 - 2_000, words(make), 30, words(unread(make)))
@@ -559,6 +603,12 @@ def marked(room):
         ("judge, a message of elements of one byte", half, judged(filler("+a")), 12, None),
         ("show --message, a message of + alone", half, told(filler("+")), 12, None),
         ("show --message, a message of elements of one byte", half, told(filler("+a")), 12, None),
+        ("audit, messages of 1 order", half, audit(recorded(orders(1))), 12, None),
+        ("audit, messages of 996 orders", half, audit(recorded(orders(996))), 12, None),
+        ("audit, messages of 1 order, the last answer tells parameters", half, audit_own(told_last(orders(1))), 12, None),
+        ("audit, messages of 996 orders, the last answer tells parameters", half, audit_own(told_last(orders(996))), 12, None),
+        ("record, messages of 1 order", half, record(recorded(orders(1))), 12, None),
+        ("record, messages of 1 order in base64", half, record(in_lines(recorded(orders(1)))), 12, None),
         of_toml("check, a script of empty texts", check, texts('""', 990)),
         of_toml("check, a script of texts of one letter", check, texts('"a"', 990)),
         of_toml("check, a script of segments without elements", check, texts('""', 0)),

@@ -4,11 +4,19 @@ program, of a recording with several dialogues from each of them, runs them, and
 was recorded, segment by segment: byte for byte but for what a client makes new for each message. No string of the
 script may be the value of a secret, and each comment is a fixed one, or an XML text that the segment after it has.
 Each is drafted without an order table and with that of all orders. With it each account that a field lists is one of
-the user's, and no run of the draft of a permitted dialogue breaks P8 or P9 by the bank's own answer. Each raw recording
-is drafted once more with other secrets of the same kinds and sizes: the script is the same.
+the user's. Each raw recording is drafted once more with other secrets of the same kinds and sizes: the script is the same.
 
-Usage: tools/drafts.py
+Where `audit` says that no rule is broken, `check` must say `clean` of the draft. It is asked for each message, also of
+one dialogue of several: a step whose message breaks no rule has no finding. Where answers have different parameters, the
+draft is checked by each of them, and a finding counts at the steps whose messages are judged by these. Where the
+recording has no parameters of the bank, those of `examples/dialogue` are taken for both. It isn't asked where `audit`
+refuses the recording, or finds something in each message. One finding is let pass: P11 of a message that asks whether
+the order is released elsewhere (HKTAN of process S), where the answer before has no 0030. The draft has a branch on 3955
+there and none on 0030, and a bank may send both.
+
+Usage: tools/drafts.py [--program PATH]
 """
+import argparse
 import pathlib
 import re
 import subprocess
@@ -16,12 +24,17 @@ import sys
 import tempfile
 import tomllib
 
+from recordings import is_of_user, nearest, opened, party_in
+from recordings import segments as texts_of
 from rows import lay_out, read_rows
 
 TOP = pathlib.Path(__file__).resolve().parent.parent
 PROGRAM = TOP / "crates" / "fints" / "out" / "fints"
 ORDERS = TOP / "rows" / "inputs" / "orders.toml"
 ALL_ORDERS = TOP / "examples" / "orders-all.toml"
+BANK = TOP / "examples" / "dialogue" / "bank.fints"
+BANK_HEADS = (rb"HIBPA:\d+:3[+:']", rb"HIPINS:\d+:1[+:']")  # what an answer has that says the bank's parameters
+NO_ACCOUNTS = b"HIUPA:1:4+x+3+1'"  # in the place of the user's, where no answer says them: usage is 1
 
 
 def call(*words):
@@ -45,14 +58,25 @@ def head_of(message):
     return message.split(b"'", 1)[0].split(b"+")[3:]
 
 
-def parts_of(dialogue):
-    """The client's messages of each dialogue of a recording, without what was written twice. What has feedback is an
-    answer."""
-    parts, before = [], b""
+def exchanges_of(dialogue):
+    """The client's messages of a recording, without what was written twice, each with the answer to it, or None. What has
+    feedback is an answer."""
+    exchanges, before = [], b""
     for message in recorded(dialogue):
         is_copy, before = message == before, message
-        if is_copy or re.search(rb"HIRM[GS]:\d", message):
+        if is_copy:
             continue
+        if not re.search(rb"HIRM[GS]:\d", message):
+            exchanges.append([message, None])
+        elif exchanges:
+            exchanges[-1][1] = message
+    return exchanges
+
+
+def parts_of(dialogue):
+    """The client's messages of each dialogue of a recording."""
+    parts = []
+    for message, _ in exchanges_of(dialogue):
         head = head_of(message)
         if not parts or (head[0].strip(b"0"), head[1].lstrip(b"0")) == (b"", b"1"):
             parts.append([])
@@ -249,21 +273,70 @@ def are_accounts_known(script, messages):
     return all(any(is_account(value, *it) for it in accounts) for field in fields for value in field["values"])
 
 
-def is_permitted_again(path, room, script):
-    """Whether no run of the draft of a permitted recording breaks P8 or P9, where one answer tells all parameters."""
-    kinds = [{it[0][0][1] for it in inner_segments(message)} for message in recorded(path.read_bytes())]
-    telling = [i for i, it in enumerate(kinds) if it & {b"HIBPA", b"HIUPA", b"HIUPD"}]
-    if len(telling) != 1 or not {b"HIBPA", b"HIPINS", b"HIUPA"} <= kinds[telling[0]]:
-        return True
-    if call("audit", "--orders", ALL_ORDERS, "--dialogue", path)[0] != 0:
-        return True
-    (room / "capture").write_bytes(recorded(path.read_bytes())[telling[0]])
-    status, text = call("check", "--params", room / "capture", "--orders", ALL_ORDERS, "--script", script)
-    return status <= 1 and not re.search(rb"\bP[89]\b", text)
+def captures_of(dialogue):
+    """The capture by which `audit` judges each of the client's messages; None where no answer has the bank's parameters."""
+    exchanges = exchanges_of(dialogue)
+    told = [texts_of(opened(answer or b"")) for _, answer in exchanges]
+    of_user = [[it for it in all_of if is_of_user(it)] for all_of in told]
+    of_bank = [[it for it in all_of if not is_of_user(it)] for all_of in told]
+    of_bank = [it if all(any(re.match(head, one) for one in it) for head in BANK_HEADS) else [] for it in of_bank]
+    named = [party_in(message) for message, _ in exchanges]
+    party, captures = next((it for it in named if it), (b"", b"")), []
+    parties = [party := it or party for it in named]
+    for place, own in enumerate(parties):
+        bank = nearest(lambda i: of_bank[i] and parties[i][0] == own[0], place, len(exchanges))
+        user = nearest(lambda i: of_user[i] and parties[i] == own, place, len(exchanges))
+        if bank is None:
+            return None
+        captures.append(b"".join(of_bank[bank] + ([NO_ACCOUNTS] if user is None else of_user[user])))
+    return captures
 
 
-def is_replayed(path, room, words, own):
-    """Whether the draft of a dialogue sends the client's messages; None where there is no draft."""
+def broken_in(report):
+    """The numbers of the messages that break a rule, of an audit."""
+    number, broken = 0, set()
+    for line in report.decode().splitlines():
+        words = line.split()
+        number = int(words[1]) if words[0] == "message" else number
+        broken |= {number} if words[0] == "broken" and len(words) > 2 else set()
+    return broken
+
+
+def asking_again(dialogue):
+    """The numbers of the messages that ask whether an order is released elsewhere, after an answer without 0030."""
+    exchanges = exchanges_of(dialogue)
+    is_asking = lambda message: any(it[0][0][1] == b"HKTAN" and it[1][0][1] == b"S" for it in inner_segments(message) if len(it) > 1)
+    has_code = lambda answer: answer is not None and re.search(rb"[+']0030:", opened(answer)) is not None
+    pairs = enumerate(zip(exchanges, exchanges[1:]), 2)
+    return {number for number, ((_, answer), (message, _)) in pairs if is_asking(message) and not has_code(answer)}
+
+
+def is_clean(path, room, script, numbers):
+    """Whether the draft of the messages with these numbers has no finding in a step whose message breaks no rule, each by
+    the parameters of its message; None where no message of them is judged."""
+    captures, words = captures_of(path.read_bytes()), ["--orders", ALL_ORDERS]
+    if captures is None:
+        captures, words = [BANK.read_bytes()] * max(numbers, default=0), [*words, "--params", BANK]
+    status, report = call("audit", *words, "--dialogue", path)
+    judged = set(numbers) - broken_in(report)
+    if status > 1 or not judged:
+        return None
+    asking = asking_again(path.read_bytes())
+    for capture in {captures[it - 1] for it in judged}:
+        (room / "capture").write_bytes(capture)
+        status, text = call("check", "--params", room / "capture", "--orders", ALL_ORDERS, "--script", script)
+        found = {int(it) for it, rule in re.findall(rb"^broken m(\d+)-\S+ (P\d+)", text, re.M) if rule != b"P11" or int(it) not in asking}
+        if status > 1 or any(captures[it - 1] == capture for it in found & judged):
+            return False
+        is_all = len(judged) == len(numbers) and all(captures[it - 1] == capture for it in judged)
+        if is_all and not asking and not text.endswith(b"\nclean\n"):
+            return False
+    return True
+
+
+def is_replayed(path, room, words, numbers, own, cleans):
+    """Whether the draft of a dialogue sends the client's messages, which have these numbers in the file; None where there
+    is no draft. Counts whether it is clean."""
     status, script = call("draft", "--dialogue", path, *words)
     case_status, case = call("draft", "--dialogue", path, *words, "--case")
     if status != case_status or not is_independent_of_secrets(path, room, words):
@@ -277,31 +350,42 @@ def is_replayed(path, room, words, own):
     again = sent(text)
     alike = len(own) == len(again) and all(map(are_alike, own, again))
     hidden = all(b'"%s"' % value not in script for value in secrets(case))
-    permitted = "--part" in words or is_permitted_again(path, room, room / "script")
     known = are_accounts_known(script, recorded(path.read_bytes())) and are_comments_known(script.decode())
-    return status == 0 and alike and hidden and known and permitted
+    clean = is_clean(path, room, room / "script", numbers)
+    cleans[clean] += 1
+    if clean is False:
+        print(f"drafts: {path}: the draft isn't clean: {' '.join(map(str, words))}", file=sys.stderr)
+    return status == 0 and alike and hidden and known and clean is not False
 
 
 def main():
+    global PROGRAM
+    given = argparse.ArgumentParser(description=__doc__, formatter_class=argparse.RawDescriptionHelpFormatter)
+    given.add_argument("--program", type=pathlib.Path, default=PROGRAM, metavar="PATH")
+    PROGRAM = given.parse_args().program.resolve()
     if not PROGRAM.exists():
         sys.exit(f"drafts: {PROGRAM} isn't built")
-    counts = {True: 0, False: 0, None: 0}
+    counts, cleans = {True: 0, False: 0, None: 0}, {True: 0, False: 0, None: 0}
     with tempfile.TemporaryDirectory() as room:
         lay_out(pathlib.Path(room), read_rows())
         names = ["rows/audit/*/dialogue", "rows/draft/*/dialogue", "rows/inputs/*.rec", "examples/**/recorded.fints"]
         for path in (it for name in names for it in sorted(pathlib.Path(room).glob(name))):
-            parts = parts_of(path.read_bytes())
-            asked = [([], parts[0] if len(parts) == 1 else [])]
-            if len(parts) > 1:
-                asked += [(["--part", str(n)], own) for n, own in enumerate(parts, 1)]
-            asked += [([*words, "--orders", ALL_ORDERS], own) for words, own in asked]
-            tried = [is_replayed(path, pathlib.Path(room), words, own) for words, own in asked]
+            parts, asked, first = parts_of(path.read_bytes()), [], 1
+            for part, own in enumerate(parts, 1):
+                numbers = range(first, first + len(own))
+                asked.append(([], numbers, own) if len(parts) == 1 else (["--part", str(part)], numbers, own))
+                first += len(own)
+            if len(parts) != 1:
+                asked.append(([], range(0), []))
+            asked += [([*words, "--orders", ALL_ORDERS], numbers, own) for words, numbers, own in asked]
+            tried = [is_replayed(path, pathlib.Path(room), *it, cleans) for it in asked]
             replayed = False if False in tried else True if True in tried else None
             counts[replayed] += 1
             if replayed is False:
-                print(f"drafts: {path}: the draft sends something else", file=sys.stderr)
+                print(f"drafts: {path}: the draft sends something else, or isn't clean", file=sys.stderr)
+    print(f"drafts: {cleans[True]} of permitted dialogues are clean, {cleans[False]} not; {cleans[None]} weren't asked")
     print(f"drafts: {counts[True]} replayed, {counts[None]} without a draft, {counts[False]} wrong")
-    sys.exit(1 if counts[False] or not counts[True] else 0)
+    sys.exit(1 if counts[False] or not counts[True] or not cleans[True] else 0)
 
 
 if __name__ == "__main__":

@@ -1,16 +1,18 @@
 #!/usr/bin/env python3
 """Makes recordings of dialogues, and compares what `fints audit` prints of them with what docs/formats.md says.
-The reference here finds the messages of a file, raw, in UTF-8 and in base64, and knows which of them are passed over:
-copies, unsealed twins, and what a logger changed. It knows whose a message is, where a dialogue begins, and which answers tell the
-parameters by which a message is judged: those of its bank, and those of its customer. Which rules one message
-breaks it asks of `fints judge`, by a capture that it puts together of these answers, and with the message before
-and the answer between them where there are two in a dialogue. Some recordings are spoiled: an answer or a message
-is left out, two are exchanged, a byte is another one, the file is cut off. What `fints record` prints is compared too.
+The files are dialogues as they are, logs, and HARs as a proxy writes them. The reference here finds the messages of a
+file, raw, in UTF-8 and in base64, and knows which of them are passed over: copies, unsealed twins, and what a logger
+changed. It knows whose a message is, where a dialogue begins, and which answers tell the parameters by which a message
+is judged: those of its bank, and those of its customer. Which rules one message breaks it asks of `fints judge`, by a
+capture that it puts together of these answers, and with the message before and the answer between them where there are
+two in a dialogue. Some recordings are spoiled: an answer or a message is left out, two are exchanged, a byte is another
+one, the file is cut off. What `fints record` prints is compared too.
 
 Usage: tools/recordings.py [--count N] [--first SEED] [--program PATH]
 """
 import argparse
 import base64
+import json
 import pathlib
 import random
 import re
@@ -198,14 +200,46 @@ def in_file(rng, messages):
     return b"".join(file)
 
 
+def har_text(rng, message):
+    """A message in base64 as a proxy's HAR has it: with JSON's escapes, in one line or in several."""
+    code = base64.b64encode(message)
+    code = rng.choice([code, code, code.rstrip(b"=")])
+    size, gap = rng.choice([20, 64, 76, len(code), len(code)]), rng.choice([b"\\n", b"\\r\\n"])
+    code = gap.join(code[i : i + size] for i in range(0, len(code), size)) + rng.choice([b"", gap])
+    return in_json(code, rng).replace(b"=", rng.choice([b"=", b"\\u003d"])).decode()
+
+
+def in_har(rng, messages):
+    """A HAR of a proxy with these messages: those of the client in request.postData, the answers in response.content."""
+    entries, texts = [], {}
+    for it in messages:
+        place = f"@{len(texts)}@"
+        texts[f'"{place}"'] = f'"{har_text(rng, it)}"'
+        if is_client(it) or not entries or "text" in entries[-1]["response"]["content"]:
+            when, url = f"2026-01-05T09:15:{len(entries) % 60:02}.000Z", "https://banking.example/fints"
+            request = {"method": "POST", "url": url, "headers": [{"name": "Content-Type", "value": "text/plain"}]}
+            entries.append({"startedDateTime": when, "time": 42, "request": request, "response": {"status": 200, "content": {}}})
+        if is_client(it):
+            entries[-1]["request"]["postData"] = {"mimeType": "text/plain", "text": place}
+        else:
+            size = {} if rng.random() < 0.5 else {"size": len(it)}
+            entries[-1]["response"]["content"] = {**size, "mimeType": "text/plain", "text": place}
+    har = {"log": {"version": "1.2", "creator": {"name": "proxy", "version": "1"}, "entries": entries}}
+    text = json.dumps(har, indent=rng.choice([None, 1, 2]))
+    for place, own in texts.items():
+        text = text.replace(place, own)
+    return text.replace("\n", rng.choice(["\n", "\r\n"])).encode()
+
+
 def recording(seed):
     """A recording, and whether its parameters come by --params."""
     rng, messages = random.Random(seed), []
     for _ in range(rng.randrange(1, 4)):
         parameters = [rng.choice(it) for it in (OTHER_BANKS, OTHER_USERS) if rng.random() < 0.7]
         messages += dialogue(rng, parameters)
-    if rng.random() < 0.5:
-        file = in_file(rng, logged(rng, messages))
+    is_log, is_har = rng.random() < 0.5, random.Random(f"HAR {seed}").random() < 0.2
+    if is_log or is_har:
+        file = in_har(rng, rng.choice([messages, messages, logged(rng, messages)])) if is_har else in_file(rng, logged(rng, messages))
         if rng.random() < 0.2:
             file = file[: rng.randrange(len(file) + 1)]
     else:
@@ -570,8 +604,9 @@ def main():
     count = lambda pattern: sum(re.search(pattern, said, re.M) is not None for said, _ in all_of)
     print(*found, sep="\n", end="\n" if found else "", file=sys.stderr)
     print(f"recordings: {count('^dialogue [A-Z]')} refused, {count('^dialogue 2$')} of several dialogues, {count('P11')} break P11")
+    hars = sum(b'"postData"' in recording(it)[0] for it in range(given.first, given.first + given.count))
     passed = [count(f"(?<!\\d)[1-9]\\d* {it}") for it in ("utf-8", "base64", "written twice", "unsealed", "whose size")]
-    print("recordings: {} have UTF-8, {} base64, {} copies, {} twins, {} changed messages".format(*passed))
+    print("recordings: {} HARs; {} have UTF-8, {} base64, {} copies, {} twins, {} changed messages".format(hars, *passed))
     print(f"recordings: {given.count - len(found)} audited as the reference says, {len(found)} otherwise")
     sys.exit(1 if found else 0)
 
