@@ -3,7 +3,7 @@
 program, of a recording with several dialogues from each of them, runs them, and compares what is sent with what
 was recorded, segment by segment: byte for byte but for what a client makes new for each message. No string of the
 script may be the value of a secret, and each comment is a fixed one, or an XML text that the segment after it has.
-Each is drafted without an order table and with that of all orders. With it each account that a field lists is one of
+Each is drafted by the order table that the program has, and by an empty one. By the first each account that a field lists is one of
 the user's. Each raw recording is drafted once more with other secrets of the same kinds and sizes: the script is the same.
 
 Where `audit` says that no rule is broken, `check` must say `clean` of the draft. It is asked for each message, also of
@@ -32,6 +32,7 @@ TOP = pathlib.Path(__file__).resolve().parent.parent
 PROGRAM = TOP / "crates" / "fints" / "out" / "fints"
 ORDERS = TOP / "rows" / "inputs" / "orders.toml"
 ALL_ORDERS = TOP / "examples" / "orders-all.toml"
+NO_ORDERS = TOP / "rows" / "inputs" / "empty"
 BANK = TOP / "examples" / "dialogue" / "bank.fints"
 BANK_HEADS = (rb"HIBPA:\d+:3[+:']", rb"HIPINS:\d+:1[+:']")  # what an answer has that says the bank's parameters
 NO_ACCOUNTS = b"HIUPA:1:4+x+3+1'"  # in the place of the user's, where no answer says them: usage is 1
@@ -345,7 +346,7 @@ def is_replayed(path, room, words, numbers, own, cleans):
         return None
     (room / "script").write_bytes(script)
     (room / "case").write_bytes(case)
-    orders = ALL_ORDERS if "--orders" in words else ORDERS
+    orders = ORDERS if NO_ORDERS in words else ALL_ORDERS
     status, text = call("run", "--orders", orders, "--script", room / "script", "--case", room / "case")
     again = sent(text)
     alike = len(own) == len(again) and all(map(are_alike, own, again))
@@ -377,7 +378,7 @@ def main():
                 first += len(own)
             if len(parts) != 1:
                 asked.append(([], range(0), []))
-            asked += [([*words, "--orders", ALL_ORDERS], numbers, own) for words, numbers, own in asked]
+            asked += [([*words, "--orders", NO_ORDERS], numbers, own) for words, numbers, own in asked]
             tried = [is_replayed(path, pathlib.Path(room), *it, cleans) for it in asked]
             replayed = False if False in tried else True if True in tried else None
             counts[replayed] += 1
