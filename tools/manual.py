@@ -15,6 +15,8 @@ from rows import read_group
 TOP = pathlib.Path(__file__).resolve().parent.parent
 HELPS = {name: row.want.out.decode() for name, row in read_group(TOP / "rows" / "help.md").items()}
 WHOLE = HELPS["help/by-its-name"]
+README = (TOP / "README.md").read_text(encoding="utf-8")
+COMMON = ("--hints", "-h, --help")
 MADE = ".\\\" Made by tools/manual.py from the helps of the program.\n"
 
 
@@ -38,17 +40,53 @@ def escaped(text):
     return "\\&" + text if text.startswith(".") else text
 
 
+def plain(text):
+    """A text of a page without its marks."""
+    return re.sub(r"\[([^]]*)\]\([^)]*\)", r"\1", text).replace("`", "").replace("**", "")
+
+
+def rules():
+    """The rules as README's first page has them: number and name, and where each is broken."""
+    return re.findall(r"^\| (P\d+ \w+) \| (.*) \|$", README, re.M)
+
+
+EXAMPLES = (
+    ("Each rule that a message of a recorded dialogue breaks, and why:", "audit --dialogue client.log --hints"),
+    ("A script that sends the same messages, and what its runs break by the bank's parameters:", "draft --dialogue client.log > script.toml"),
+    ("", "orders > orders.toml"),
+    ("", "check --params bank.fints --orders orders.toml --script script.toml --hints"),
+    ("Which rules one message breaks:", "judge --params bank.fints --orders orders.toml --message message.fints"),
+)
+
+
 def manual():
-    lines = [MADE.rstrip(), ".TH FINTS 1", ".SH NAME", "fints \\- " + escaped(WHOLE.splitlines()[0]), ".SH SYNOPSIS", ".B fints", "[options] command", ".SH COMMANDS"]
+    version = HELPS["help/version"].split()[1]
+    first = plain(README.split("\n\n")[1]).replace(" (what is proved)", "")
+    lines = [MADE.rstrip(), f'.TH FINTS 1 "" "fints {version}"', ".SH NAME", "fints \\- " + escaped(WHOLE.splitlines()[0])]
+    lines += [".SH SYNOPSIS"]
+    for name, _, usage, _ in commands():
+        lines += [".B " + escaped(usage.replace("[OPTIONS] ", "").replace(" [OPTIONS]", "")), ".br"]
+    lines += [".SH DESCRIPTION", escaped(first)]
+    for rule, broken in rules():
+        lines += [".TP", ".B " + escaped(rule), escaped(plain(broken)) + "."]
+    lines += [".SH COMMANDS"]
     for name, about, usage, options in commands():
-        lines += [".SS " + escaped(usage), escaped(about) + "."]
+        lines += [".SS " + escaped(usage.replace("[OPTIONS] ", "").replace(" [OPTIONS]", "")), escaped(about) + "."]
         for option, words in options:
-            lines += [".TP", ".B " + escaped(option), escaped(words)]
-    for head in ("Statuses", "Files"):
-        lines += [f".SH {head.upper()}"]
+            if option not in COMMON:
+                lines += [".TP", ".B " + escaped(option), escaped(words)]
+    lines += [".SH OPTIONS"]
+    for option, words in rows_of(WHOLE, "Options:"):
+        lines += [".TP", ".B " + escaped(option), escaped(words)]
+    for head, title in (("Statuses", "EXIT STATUS"), ("Files", "FILES")):
+        lines += [f".SH {title}"]
         for left, right in rows_of(WHOLE, head):
             lines += [".TP", ".B " + escaped(left), escaped(right)]
-    lines += [".PP", "A file that is \\- is standard input, for one option of a command."]
+    lines += [".PP", "A file that is \\- is standard input, for one option of a command.", ".SH EXAMPLES"]
+    for about, command in EXAMPLES:
+        lines += [".PP", escaped(about)] if about else []
+        lines += [".PP", ".nf", "fints " + escaped(command), ".fi"]
+    lines += [".SH SEE ALSO", ".BR dot (1),", "and the pages in /usr/share/doc/fints: docs/reading.md says what to do about a report."]
     return "\n".join(lines) + "\n"
 
 
@@ -56,17 +94,31 @@ def completion():
     cases, names = "", []
     for name, _, _, options in commands():
         names.append(name)
-        words = [re.search(r"--[a-z]+", option)[0] for option, _ in options]
-        takes = {kind: [re.search(r"--[a-z]+", option)[0] for option, _ in options if option.endswith(f"<{kind}>")] for kind in ("FILE", "N")}
+        words, takes = [], {"FILE": [], "N": []}
+        for option, about in options:
+            own = [re.search(r"--[a-z-]+", option)[0], *re.findall(r"\[alias: (--[a-z-]+)\]", about)]
+            words += own
+            for kind in takes:
+                takes[kind] += own if option.endswith(f"<{kind}>") else []
         cases += f"    {name}) words=\"{' '.join(words)}\" files=\"{' '.join(takes['FILE'])}\" numbers=\"{' '.join(takes['N'])}\" ;;\n"
     return f"""# Made by tools/manual.py from the helps of the program. To use it: source docs/fints.bash
 _fints() {{
-    local word=${{COMP_WORDS[COMP_CWORD]}} before=${{COMP_WORDS[COMP_CWORD - 1]}} words files= numbers=
-    case ${{COMP_WORDS[1]}} in
+    local word=${{COMP_WORDS[COMP_CWORD]}} before=${{COMP_WORDS[COMP_CWORD - 1]}} words files= numbers= command=
+    # bash cuts --params=FILE into three words
+    if [ "$word" = "=" ]; then
+        word=
+    elif [ "$before" = "=" ]; then
+        before=${{COMP_WORDS[COMP_CWORD - 2]}}
+    fi
+    for command in "${{COMP_WORDS[@]:1:COMP_CWORD - 1}}" ""; do
+        [[ $command == -* ]] || break
+    done
+    case $command in
 {cases}    *) words="{' '.join(names)} help --hints --help --version" ;;
     esac
     case " $files " in
     *" $before "*)
+        compopt -o filenames 2> /dev/null
         mapfile -t COMPREPLY < <(compgen -f -- "$word")
         return
         ;;
