@@ -5,10 +5,11 @@ seconds), and how many times as long 2n takes. No part of the gate.
 
 A run is given 150 seconds of processor time and 4 GiB of addresses. The second table is of maps with
 many keys. The third tells how much memory a further byte of an input takes, beside the mark that it
-should keep. The last two tell how a run ends that can't have the memory it asks for, and which stack deep
-texts of TOML need.
+should keep. The fourth has the instructions of runs with and without `--hints`. The last two tell how a run
+ends that can't have the memory it asks for, and which stack deep texts of TOML need. With --count the first two
+tables have millions of instructions in place of times, as docs/performance.md has them.
 
-Usage: tools/cost.py [--program PATH] [--runs N] [WORD..]     only the lines with one of these words
+Usage: tools/cost.py [--program PATH] [--runs N] [--count] [WORD..]     only the lines with one of these words
 """
 import argparse
 import base64
@@ -551,6 +552,13 @@ def time_table(room, title, lines, runs):
             print(f"{line}  {said if status > 1 else ''}".rstrip(), flush=True)
 
 
+def count_table(room, lines):
+    for label, unit, n, words in lines:
+        once, twice = (room.instructions(words(count)) for count in (n, 2 * n))
+        for count, millions in ((n, once), (2 * n, twice)):
+            print(f"{label:58} {f'{count:,} {unit}':>18} {millions:10.1f} {millions / once:5.2f}", flush=True)
+
+
 def growth(room, once, twice):
     """How many times as long the run takes with twice the input. Where that is far more than two and than
     what goes in and comes out grows, how many times as many instructions, which hang on no other work on the
@@ -631,6 +639,43 @@ def mark_table(room, wanted):
         further = (peaks[1] - peaks[0] - of_others[1] + of_others[0]) * 1024 / (sizes[1] - sizes[0])
         over = "  over" if further > mark else ""
         print(f"{label:58} {sizes[1]:15,} {peaks[1] / 1024:8.1f} {further:7.1f} {mark:5}{over}", flush=True)
+
+
+def signed(number):
+    """A message of an order with the signature of a PIN."""
+    opener = "4+PIN:2+921+4711+1+1+1::0+1+1:20251023:102030+1:999:1+6:10:16+280:10020030:user:S:0:0"
+    return message([("HNSHK", opener), ("HKSAL", "5+9999999+N"), ("HNSHA", "2+4711++12345")], number)
+
+
+def hinted_runs(room):
+    """Runs that are counted with and without `--hints`: on the examples, and by an ordinary capture of a megabyte."""
+    folder, orders_all = f"{TOP}/examples/dialogue", ["--orders", f"{TOP}/examples/orders-all.toml"]
+    bank = ["--params", f"{folder}/bank.fints", "--orders", f"{folder}/orders.toml"]
+    large = ["--params", room.file(ordinary(1_000_000)), "--orders", ORDERS]
+    recorded_signed = "".join(signed(it) + message([RECEIVED], it) for it in range(1, 17))
+    scripts = ("dialogue", "decoupled", "second-signature", "tan-left-out")
+    judged = ("initialisation", "transfer", "second-signature", "tan-left-out")
+    return [
+        *((f"check, {it}.toml", ["check", *bank, "--script", f"{folder}/{it}.toml"]) for it in scripts),
+        ("check, end.toml", ["check", "--params", f"{TOP}/examples/c.fints", *orders_all, "--script", f"{TOP}/examples/end.toml"]),
+        *((f"judge, {it}", ["judge", *bank, "--message", f"{TOP}/rows/dialogue/judge-{it}/message"]) for it in judged),
+        ("audit, dialogue/recorded.fints", ["audit", *orders_all, "--dialogue", f"{folder}/recorded.fints"]),
+        ("audit --params, dialogue/recorded.fints", ["audit", *bank, "--dialogue", f"{folder}/recorded.fints"]),
+        ("audit, recorded.fints", ["audit", *orders_all, "--dialogue", f"{TOP}/examples/recorded.fints"]),
+        ("check, a megabyte of a capture", ["check", *large, "--script", f"{folder}/dialogue.toml"]),
+        ("judge, a megabyte of a capture, a message without a signature", ["judge", *large, "--message", room.file(orders(1))]),
+        ("judge, a megabyte of a capture, a signed message", ["judge", *large, "--message", room.file(signed(1))]),
+        ("audit, a megabyte of a capture, 16 signed messages", ["audit", *large, "--dialogue", room.file(recorded_signed)]),
+    ]
+
+
+def hint_table(room, wanted):
+    if not wanted("hints") or not shutil.which("valgrind"):
+        return
+    print(f"\n{'Millions of instructions':62} {'without':>9} {'--hints':>9} {'times':>6}")
+    for label, words in hinted_runs(room):
+        without, with_hints = room.instructions(words), room.instructions([*words, "--hints"])
+        print(f"{label:62} {without:9.2f} {with_hints:9.2f} {with_hints / without:6.2f}", flush=True)
 
 
 def memory_table(room, wanted):
@@ -724,16 +769,23 @@ def main():
     words = argparse.ArgumentParser(description="Prints what the built program takes for large inputs.")
     words.add_argument("--program", default=os.environ.get("FINTS", f"{TOP}/crates/fints/out/fints"))
     words.add_argument("--runs", type=int, default=3, help="of which the least time is printed")
-    words.add_argument("word", nargs="*", help="only the lines with one of these words; `keys` is the table of maps, `marks` that of memory, `deep` that of stacks")
+    words.add_argument("word", nargs="*", help="only the lines with one of these words; `keys` is the table of maps, `marks` that of memory, `hints` that of hints, `deep` that of stacks")
+    words.add_argument("--count", action="store_true", help="instructions in place of times")
     asked = words.parse_args()
     if not os.access(asked.program, os.X_OK):
         sys.exit(f"cost: {asked.program} isn't built")
     wanted = lambda label: not asked.word or any(it in label for it in asked.word)
     with tempfile.TemporaryDirectory(prefix="cost-") as folder:
         room = Room(os.path.abspath(asked.program), folder)
-        time_table(room, "What", [it for it in measured(room) if wanted(it[0])], asked.runs)
-        time_table(room, "Maps by their keys", [it for it in measured_keys(room) if wanted("keys") or wanted(it[0])], asked.runs)
+        lines = [it for it in measured(room) if wanted(it[0])]
+        of_keys = [it for it in measured_keys(room) if wanted("keys") or wanted(it[0])]
+        if asked.count:
+            count_table(room, lines + of_keys)
+            return
+        time_table(room, "What", lines, asked.runs)
+        time_table(room, "Maps by their keys", of_keys, asked.runs)
         mark_table(room, wanted)
+        hint_table(room, wanted)
         memory_table(room, wanted)
         stack_table(room, wanted)
 
