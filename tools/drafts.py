@@ -10,9 +10,7 @@ Where `audit` says that no rule is broken, `check` must say `clean` of the draft
 one dialogue of several: a step whose message breaks no rule has no finding. Where answers have different parameters, the
 draft is checked by each of them, and a finding counts at the steps whose messages are judged by these. Where the
 recording has no parameters of the bank, those of `examples/dialogue` are taken for both. It isn't asked where `audit`
-refuses the recording, or finds something in each message. One finding is let pass: P11 of a message that asks whether
-the order is released elsewhere (HKTAN of process S), where the answer before has no 0030. The draft has a branch on 3955
-there and none on 0030, and a bank may send both.
+refuses the recording, or finds something in each message.
 
 Usage: tools/drafts.py [--program PATH]
 """
@@ -303,15 +301,6 @@ def broken_in(report):
     return broken
 
 
-def asking_again(dialogue):
-    """The numbers of the messages that ask whether an order is released elsewhere, after an answer without 0030."""
-    exchanges = exchanges_of(dialogue)
-    is_asking = lambda message: any(it[0][0][1] == b"HKTAN" and it[1][0][1] == b"S" for it in inner_segments(message) if len(it) > 1)
-    has_code = lambda answer: answer is not None and re.search(rb"[+']0030:", opened(answer)) is not None
-    pairs = enumerate(zip(exchanges, exchanges[1:]), 2)
-    return {number for number, ((_, answer), (message, _)) in pairs if is_asking(message) and not has_code(answer)}
-
-
 def is_clean(path, room, script, numbers):
     """Whether the draft of the messages with these numbers has no finding in a step whose message breaks no rule, each by
     the parameters of its message; None where no message of them is judged."""
@@ -322,15 +311,14 @@ def is_clean(path, room, script, numbers):
     judged = set(numbers) - broken_in(report)
     if status > 1 or not judged:
         return None
-    asking = asking_again(path.read_bytes())
     for capture in {captures[it - 1] for it in judged}:
         (room / "capture").write_bytes(capture)
         status, text = call("check", "--params", room / "capture", "--orders", ALL_ORDERS, "--script", script)
-        found = {int(it) for it, rule in re.findall(rb"^broken m(\d+)-\S+ (P\d+)", text, re.M) if rule != b"P11" or int(it) not in asking}
+        found = {int(it) for it in re.findall(rb"^broken m(\d+)-", text, re.M)}
         if status > 1 or any(captures[it - 1] == capture for it in found & judged):
             return False
         is_all = len(judged) == len(numbers) and all(captures[it - 1] == capture for it in judged)
-        if is_all and not asking and not text.endswith(b"\nclean\n"):
+        if is_all and not text.endswith(b"\nclean\n"):
             return False
     return True
 

@@ -18,6 +18,8 @@ pub struct Turn {
     /// It goes on with one: HKTAN of process 2 sends the TAN, one of process S asks whether it was
     /// released elsewhere.
     releases: bool,
+    /// It sends the TAN.
+    sends_tan: bool,
     /// It ends the dialogue.
     ends: bool,
 }
@@ -29,6 +31,7 @@ impl Turn {
             kind: recorded.kind(),
             submits: body.iter().any(|own| has_process(own, b"4")),
             releases: body.iter().any(|own| goes_on(own)),
+            sends_tan: body.iter().any(|own| has_process(own, b"2")),
             ends: body.iter().any(|own| own.head.id.is(b"HKEND")),
         }
     }
@@ -41,9 +44,11 @@ struct Target {
     kind: Option<Kind>,
 }
 
-/// The branches of a step, one for each of the codes, and its default. A target is a step, or the end.
+/// The branches of a step: first that of the code that ends the run, then one for each of the codes; and its default.
+/// A target is a step, or the end.
 #[derive(Drop)]
 pub struct Ways {
+    ending: Option<Code>,
     codes: Vec<Code>,
     target: Option<Target>,
     default: Option<Target>,
@@ -85,27 +90,21 @@ fn past_releases(turns: &[Turn], place: usize) -> Option<Target> {
     target_at(turns, place.saturating_add(count))
 }
 
-// The code 0030, where a message submitted an order, and the next one neither goes on with it nor ends the
-// dialogue.
-fn unreleased(
-    alloc: Global,
-    here: Option<&Turn>,
-    next: Option<&Turn>,
-) -> Result<Vec<Code>, AllocError> {
-    let mut codes = Vec::new(alloc);
+// The code 0030, where a message submitted an order, the bank didn't ask by this code, and the next message neither
+// sends the TAN nor ends the dialogue.
+fn unreleased(here: Option<&Turn>, next: Option<&Turn>, asking: &[Code]) -> Option<Code> {
+    let is_asked = asking.iter().any(|code| code.number() == DEMANDING);
     let submits = here.is_some_and(|turn| turn.submits);
-    if submits && next.is_some_and(|turn| !turn.releases && !turn.ends) {
-        if let Some(code) = Code::from_number(DEMANDING) {
-            codes.push(code)?;
-        }
+    if submits && !is_asked && next.is_some_and(|turn| !turn.sends_tan && !turn.ends) {
+        return Code::from_number(DEMANDING);
     }
-    Ok(codes)
+    None
 }
 
 /// The ways of the step of a place among the messages, from 0 on. Where the bank asked for a TAN or for a
 /// release elsewhere, and the next message goes on with the order, each code by which it asked leads there, and
-/// the default past it. Where an order was submitted, the next message does something else, and the bank asked
-/// for nothing, the code 0030 ends the run.
+/// the default past it. Where an order was submitted, and the next message doesn't release it by its TAN, the code
+/// 0030 ends the run, unless the bank asked by it.
 pub fn ways_of(
     alloc: Global,
     turns: &[Turn],
@@ -114,20 +113,18 @@ pub fn ways_of(
 ) -> Result<Ways, AllocError> {
     let next = place.saturating_add(1);
     let asking = asking_codes(alloc, exchange)?;
+    let ending = unreleased(turns.get(place), turns.get(next), asking.as_slice());
     if !asking.is_empty() && turns.get(next).is_some_and(|turn| turn.releases) {
         return Ok(Ways {
+            ending,
             codes: asking,
             target: target_at(turns, next),
             default: past_releases(turns, next),
         });
     }
-    let codes = if asking.is_empty() {
-        unreleased(alloc, turns.get(place), turns.get(next))?
-    } else {
-        Vec::new(alloc)
-    };
     Ok(Ways {
-        codes,
+        ending,
+        codes: Vec::new(alloc),
         target: None,
         default: target_at(turns, next),
     })
@@ -174,8 +171,11 @@ fn write_branch(
 
 fn write_branches(text: &mut String, ways: &Ways, before: usize) -> Result<(), AllocError> {
     text.push_str("branches = [")?;
+    if let Some(code) = ways.ending {
+        write_branch(text, code, None, before)?;
+    }
     for (i, code) in ways.codes.iter().enumerate() {
-        if i > 0 {
+        if i > 0 || ways.ending.is_some() {
             text.push_str(", ")?;
         }
         write_branch(text, *code, ways.target, before)?;
@@ -186,7 +186,7 @@ fn write_branches(text: &mut String, ways: &Ways, before: usize) -> Result<(), A
 /// Writes the branches and the default of a step, where this many messages of the client come before the dialogue
 /// in the recording.
 pub fn write_ways(text: &mut String, ways: &Ways, before: usize) -> Result<(), AllocError> {
-    if !ways.codes.is_empty() {
+    if ways.ending.is_some() || !ways.codes.is_empty() {
         write_branches(text, ways, before)?;
     }
     text.push_str("default = ")?;
