@@ -3,7 +3,8 @@ use crate::days::day_of;
 use crate::formats::{Format, format_in};
 use crate::procedures::{Procedure, add_procedures};
 use fints_cli_hints_segments::data_of;
-use fints_syntax::{Kind, Memory, OwnedSegment, Placed, parse_number, parse_placed};
+use fints_syntax::{Kind, Memory, OwnedSegment, Placed, SegmentView, parse_number, parse_placed};
+use memchr::memmem;
 use std::alloc::Global;
 
 /// The lengths of element 5 of the one HIPINS; 0 where one isn't given.
@@ -91,6 +92,18 @@ fn is_parameter(kind: Kind) -> bool {
     id.len() == 6 && id.starts_with(b"HI") && id.ends_with(b"S")
 }
 
+// Whether a note asks for something in the segment: in one of these kinds, or in a parameter segment with a format.
+// An ordinary capture has many others, which aren't copied.
+fn is_asked_for(segment: &SegmentView<'_>) -> bool {
+    let kind = segment.id();
+    let is_read = kind.is(b"HITANS")
+        || kind.is(b"HIRMS")
+        || kind.is(b"HIPINS")
+        || kind.is(b"HIKAZS")
+        || kind.is(b"HICAZS");
+    is_read || is_parameter(kind) && memmem::find(segment.as_bytes(), b"pain").is_some()
+}
+
 fn add_formats(formats: &mut Vec<(Kind, Format)>, segment: &OwnedSegment) -> Result<(), Memory> {
     let kind = segment.head.id;
     for element in 2..segment.elements.len().saturating_add(2) {
@@ -149,8 +162,7 @@ impl Captured {
     }
 
     fn add_placed(&mut self, alloc: Global, placed: &Placed<'_>) -> Result<(), Memory> {
-        let kind = placed.segment.id();
-        if is_parameter(kind) || kind.is(b"HIRMS") {
+        if is_asked_for(&placed.segment) {
             self.add(&placed.segment.to_owned(alloc)?)?;
         }
         Ok(())
