@@ -13,10 +13,10 @@ returns-in-Ok-clause-drafted c =
       log = noted.0;
       secret = secret;
       log_is = noted.1;
-      draft = rw c.as_slice-table.ensures.value at (c.in-Ok.ensures.draft dialogue c.log_of-log.ensures);
+      draft = rw c.as_slice-table.ensures at (c.in-Ok.ensures.draft dialogue c.log_of-log.ensures);
       note_is = said.2 ∙ ap (λ front. front ++ secrets_note c.args.drafted secret) noted.2;
     }
 
 pub returns-clause-refused : goal.returns-clause-refused
 returns-clause-refused c =
-    rw c.as_slice-table.ensures.value at (c.in-Err.ensures.refused c.args.contents.now.dialogue.items c.log_of-log.ensures)
+    rw c.as_slice-table.ensures at (c.in-Err.ensures.refused c.args.contents.now.dialogue.items c.log_of-log.ensures)
