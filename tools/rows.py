@@ -3,7 +3,7 @@
 
 rows      the rows of rows/GROUP.md
 tables    the rows of the tables in rows/tables/
-readme    the examples of README.md: blocks that begin `$ fints ..` or `$ (cd crates/fints && rt try ..`
+pages     the commands of README.md, docs/client.md and docs/testers.md
 listings  whether each file that docs/library.md shows is that file, or has that part
 
 rows/README.md says what a row and a table are. The tool prints what differs, how many passed and failed of
@@ -281,26 +281,75 @@ def tables_part(program, room):
 # ---- The pages.
 
 
-def readme_part(program, room):
-    """The examples of README.md. Of `rt try` only standard output is shown: on the other stream rt says what it does."""
-    jobs = []
-    text = (TOP / "README.md").read_text(encoding="utf-8")
+PAGES = ("README.md", "docs/client.md", "docs/testers.md")
+# What a page's reader has, and which file of the rows it is here.
+OWN = {"client.log": "audit/log-of-hbci4java/h4j.log", "proxy.har": "audit/har-of-a-proxy/h4j.har"}
+BLOCK = re.compile(r"^```.*\n((?:(?!```).*\n)*)```\n|^((?:    .*\n)+)", re.M)
+COMMAND = re.compile(r"fints |for ")
+BUILDS = re.compile(r"rt ci$|\(cd crates/fints && rt run ")
+# A command in a line, without `FILE` for a file and `..` for further words.
+INLINE = re.compile(r"`(fints (?![^`]*(?:FILE|\.\.))[^`]*--[^`]*)`")
+
+
+def commands_of(text):
+    """The commands of a page: of each its line, and what the page shows of it, or None. A block that begins with `$ `
+    is a command of one line and what it prints. What another block prints is in the next one, after "prints"."""
+    commands, end = [], 0
+    for block in BLOCK.finditer(text):
+        body = block[1] if block[2] is None else re.sub(r"^    ", "", block[2], flags=re.M)
+        line = text.count("\n", 0, block.start()) + (2 if block[2] is None else 1)
+        between, end = text[end : block.start()].strip(), block.end()
+        first, _, rest = body.partition("\n")
+        if first.startswith("$ "):
+            commands.append((line, first[2:], rest.rstrip("\n")))
+        elif COMMAND.match(body):
+            commands.append((line, body, None))
+        elif between == "prints" and commands and commands[-1][2] is None:
+            commands[-1] = (*commands[-1][:2], body.rstrip("\n"))
+        elif not BUILDS.match(body):
+            raise ValueError(f"line {line}: this is no command, nor what one prints")
+    prose = BLOCK.sub(lambda it: "\n" * it[0].count("\n"), text)
+    commands += [(prose.count("\n", 0, it.start()) + 1, it[1], None) for it in INLINE.finditer(prose)]
+    return sorted(commands, key=lambda it: it[0])
+
+
+def pages_part(program, room):
+    """The commands of the pages, in a copy of `examples` with the files that a reader has. Of `rt try` only standard
+    output is shown: on the other stream rt says what it does."""
+    shutil.copytree(TOP / "examples", room / "examples")
+    for name, row in OWN.items():
+        shutil.copy(ROWS / row, room / name)
+    (room / "bin").mkdir()
+    (room / "bin" / "fints").symlink_to(program)
 
     def check(command, shown):
-        """Runs an example as a shell does, with both streams in one."""
-        tries = command.startswith("(cd ")
-        call = ["bash", "-c", f'fints() {{ "$FINTS" "$@"; }}\n{command}']
+        """Runs a command as a shell does, with both streams in one. One of whose output nothing is shown is a report."""
+        tries = command.startswith("(cd crates/fints && rt try ")
         errors = subprocess.DEVNULL if tries else subprocess.STDOUT
-        env = {**os.environ, "FINTS": program}
-        ran = subprocess.run(call, cwd=TOP, env=env, stdin=subprocess.DEVNULL, stdout=subprocess.PIPE, stderr=errors)
+        env = {**os.environ, "PATH": f"{room / 'bin'}:{os.environ['PATH']}"}
+        ran = subprocess.run(
+            ["bash", "-c", command],
+            cwd=TOP if tries else room,
+            env=env,
+            stdin=subprocess.DEVNULL,
+            stdout=subprocess.PIPE,
+            stderr=errors,
+            timeout=None if tries else SECONDS,
+        )
         got = ran.stdout.decode("utf-8", "surrogateescape").rstrip("\n")
+        if shown is None:
+            return "" if ran.returncode in (0, 1) else f"status {ran.returncode}, printed: {got[-200:]!r}"
         return "" if got == shown else differing(shown.split("\n"), got.split("\n"))
 
-    for block in re.finditer(r"^```.*\n((?:(?!```).*\n)*)```", text, re.M):
-        first, _, shown = block[1].removesuffix("\n").partition("\n")
-        if re.match(r"\$ fints( |$)|\$ \(cd crates/fints && rt try ", first):
-            line = text.count("\n", 0, block.start()) + 2
-            jobs.append(Job(f"README.md, line {line}: {first}", partial(check, first[2:], shown)))
+    jobs = []
+    for page in PAGES:
+        try:
+            commands = commands_of((TOP / page).read_text(encoding="utf-8"))
+        except ValueError as fault:
+            sys.exit(f"pages: {page}, {fault}")
+        for line, command, shown in commands:
+            name = f"{page}, line {line}: {command.partition(chr(10))[0]}"
+            jobs.append(Job(name, partial(check, command, shown)))
     return jobs
 
 
@@ -319,7 +368,7 @@ def listings_part(program, room):
     return [Job(f"docs/library.md: {path}", partial(check, path, how, body.removesuffix("\n"))) for path, how, body in found]
 
 
-PARTS = {"rows": rows_part, "tables": tables_part, "readme": readme_part, "listings": listings_part}
+PARTS = {"rows": rows_part, "tables": tables_part, "pages": pages_part, "listings": listings_part}
 
 
 def is_passed(job):
@@ -341,8 +390,8 @@ def run_part(name, program, lanes, only):
             print(f"{name}: there is no row", file=sys.stderr)
             return 0, 1
         picked = [it for it in jobs if only in it.name]
-        # The README's examples run one after another: `rt try` works in one folder.
-        passed = sum((map if name == "readme" else lanes.map)(is_passed, picked))
+        # The pages' commands run one after another: they work in one folder.
+        passed = sum((map if name == "pages" else lanes.map)(is_passed, picked))
     print(f"{name}: {passed} passed, {len(picked) - passed} failed", flush=True)
     return passed, len(picked) - passed
 
