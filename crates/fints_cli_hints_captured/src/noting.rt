@@ -178,6 +178,11 @@ fn kind_in(order: &Segment<'_>) -> Option<Kind> {
     Kind::parse(order.value(3, 1)?)
 }
 
+// Whether an initialisation may name the kind in HKTAN: clients open the dialogue of such an order so.
+fn may_be_initialised(sent: &Sent<'_>, named: Kind) -> bool {
+    sent.has(b"HKIDN") && (named.is(b"HKTAB") || named.is(b"HKPAE"))
+}
+
 // That element 3 names an order that the message doesn't hold.
 fn add_named(notes: &mut Notes<'_>, sent: &Sent<'_>, order: &Segment<'_>) -> Result<(), Memory> {
     let (Some(named), Some(held)) = (kind_in(order), other_kind(sent)) else {
@@ -185,7 +190,8 @@ fn add_named(notes: &mut Notes<'_>, sent: &Sent<'_>, order: &Segment<'_>) -> Res
     };
     let is_order = named.as_bytes().starts_with(b"HK") || named.as_bytes().starts_with(b"DK");
     let is_checked = sent.has(b"HKVPP") || sent.has(b"HKVPA");
-    if is_order && !is_checked && !sent.has(named.as_bytes()) {
+    let is_known = sent.has(named.as_bytes()) || may_be_initialised(sent, named);
+    if is_order && !is_checked && !is_known {
         let (named, held) = (Ascii(named.as_bytes()), Ascii(held.as_bytes()));
         let what = written(
             notes.alloc,
