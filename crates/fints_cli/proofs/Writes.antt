@@ -2,9 +2,9 @@
 use Rattle.std.specs.Prelude.{OnOk, OnErr}
 use Rattle.std.proofs.Common.{Result, Ok, Err, arith, inl, inr, ◌≡◌, ◌∙◌, sym, ap, subst, ℕ, ◌+◌, ◌-◌, List, ◌++◌, length, take, drop, Option, Some, None, append_assoc}
 use Rattle.std.proofs.lemmas.Bool.{cases_lt}
-use Rattle.std.proofs.lemmas.List.{take_all, take_rest, take-append-le}
+use Rattle.std.proofs.lemmas.List.{append-nil, take_all, take_rest, take-append-le}
 use Rattle.std.proofs.Math.Seq.{take-add, take-append-add, take-append_seam}
-use Rattle.fints_cli_files.specs.Streams.{Gets, GetsPrefix}
+use Rattle.fints_cli_files.specs.Streams.{Gets, GetsNothing, GetsPrefix}
 
 -- the text from a place on, as a slice to its end has it
 abbrev pub rest_from : ℕ → List ℕ → List ℕ
@@ -17,6 +17,11 @@ gets-more None mid new a b first second = tt
 gets-more (Some x) None new a b first second = absurd first
 gets-more (Some x) (Some y) None a b first second = absurd second
 gets-more (Some x) (Some y) (Some z) a b first second = second ∙ ap (λ l. l ++ b) first ∙ append_assoc x a b
+
+-- a stream to which nothing was written got nothing
+pub got_nothing : (x : Option (List ℕ)) → GetsNothing x x
+got_nothing None = tt
+got_nothing (Some a) = sym (append-nil a)
 
 -- the next part of a text, got after its front
 pub gets-next : (old mid new : Option (List ℕ)) (n m : ℕ) (text : List ℕ) → Gets old mid (take n text)

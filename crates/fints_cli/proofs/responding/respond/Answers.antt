@@ -3,6 +3,7 @@ use Rattle.std.specs.Prelude.{string_bytes}
 use Rattle.fints_cli_files.specs.Streams.{GetsPrefix}
 use Rattle.fints_cli.proofs.CutAnswers.{cut_answer}
 use Rattle.fints_cli.proofs.Faults.{failure_above, fails_with, first_under}
+use Rattle.fints_cli.proofs.Writes.{got_nothing}
 use Rattle.fints_cli.specs.Responses.{Tells}
 use Rattle.fints_cli.proofs.responding.respond.Goals as goal
 
@@ -110,3 +111,11 @@ pub returns-in-Err-clause-memory : goal.returns-in-Err-clause-memory
 returns-in-Err-clause-memory g c four =
     inr (fails_with _ _ _ _ _ 4 c.in-Err.refusal.failure c.in-Run.is (sym c.tell_refusal.ensures.status ∙ four)
     c.in-Err.ensures.refused c.in-Err.ensures.reason)
+
+pub returns-in-Err-clause-failed : goal.returns-in-Err-clause-failed
+returns-in-Err-clause-failed g c five =
+    inl (
+      fails_with _ _ _ _ _ 5 c.in-Err.refusal.failure c.in-Run.is (sym c.tell_refusal.ensures.status ∙ five)
+          c.in-Err.ensures.refused c.in-Err.ensures.reason,
+      got_nothing _,
+    )
