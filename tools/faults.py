@@ -514,7 +514,8 @@ def other_names(lab, name):
     script = write(f"{lab.room}/{name.replace('/', '-')}.toml", text)
     told = re.sub(rb"^(step|broken) (\S+)", rb"\1 \2x", run.want.out, flags=re.M)
     words = [script if it == path else it for it in run.words]
-    lab.hold(f"{name} with other names", run.want._replace(out=told), words, run.folder)
+    noted = re.sub(rb'step "([^"]+)"', rb'step "\1x"', run.want.err)
+    lab.hold(f"{name} with other names", run.want._replace(out=told, err=noted), words, run.folder)
 
 
 def families(lab):

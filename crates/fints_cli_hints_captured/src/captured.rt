@@ -3,7 +3,9 @@ use crate::days::day_of;
 use crate::formats::{Format, format_in};
 use crate::procedures::{Procedure, add_procedures};
 use fints_cli_hints_segments::data_of;
-use fints_syntax::{Kind, Memory, OwnedSegment, Placed, SegmentView, parse_number, parse_placed};
+use fints_syntax::{
+    Kind, Memory, OwnedSegment, Placed, SegmentView, SyntaxKind, parse_number, parse_placed,
+};
 use memchr::memmem;
 use std::alloc::Global;
 
@@ -117,6 +119,17 @@ fn add_formats(formats: &mut Vec<(Kind, Format)>, segment: &OwnedSegment) -> Res
     Ok(())
 }
 
+// The segments of the bytes; none where they are no segments.
+fn segments_of(alloc: Global, bytes: &[u8]) -> Result<Vec<Placed<'_>>, Memory> {
+    match parse_placed(alloc, bytes) {
+        Ok(segments) => Ok(segments),
+        Err(fault) => match fault.kind {
+            SyntaxKind::Memory => Err(Memory),
+            _ => Ok(Vec::new(alloc)),
+        },
+    }
+}
+
 impl Captured {
     fn nothing(alloc: Global) -> Captured {
         Captured {
@@ -170,10 +183,8 @@ impl Captured {
 
     // Adds the segments of the data of an HNVSD.
     fn add_data(&mut self, alloc: Global, data: &[u8]) -> Result<(), Memory> {
-        if let Ok(inner) = parse_placed(alloc, data) {
-            for placed in inner.iter() {
-                self.add_placed(alloc, placed)?;
-            }
+        for placed in segments_of(alloc, data)?.iter() {
+            self.add_placed(alloc, placed)?;
         }
         Ok(())
     }
@@ -188,10 +199,8 @@ impl Captured {
     /// What the capture says.
     pub fn of(alloc: Global, capture: &[u8]) -> Result<Captured, Memory> {
         let mut captured = Captured::nothing(alloc);
-        if let Ok(outer) = parse_placed(alloc, capture) {
-            for placed in outer.iter() {
-                captured.add_outer(alloc, placed)?;
-            }
+        for placed in segments_of(alloc, capture)?.iter() {
+            captured.add_outer(alloc, placed)?;
         }
         if captured.pins != 1 {
             captured.lengths = None;
@@ -271,10 +280,8 @@ impl Said {
     }
 
     fn add_data(&mut self, alloc: Global, data: &[u8]) -> Result<(), Memory> {
-        if let Ok(inner) = parse_placed(alloc, data) {
-            for placed in inner.iter() {
-                self.add_placed(alloc, placed)?;
-            }
+        for placed in segments_of(alloc, data)?.iter() {
+            self.add_placed(alloc, placed)?;
         }
         Ok(())
     }
@@ -286,12 +293,10 @@ pub fn said_in(alloc: Global, answer: &[u8]) -> Result<Said, Memory> {
         allowed: Vec::new(alloc),
         references: Vec::new(alloc),
     };
-    if let Ok(outer) = parse_placed(alloc, answer) {
-        for placed in outer.iter() {
-            match data_of(placed) {
-                Some(data) => said.add_data(alloc, data.bytes)?,
-                None => said.add_placed(alloc, placed)?,
-            }
+    for placed in segments_of(alloc, answer)?.iter() {
+        match data_of(placed) {
+            Some(data) => said.add_data(alloc, data.bytes)?,
+            None => said.add_placed(alloc, placed)?,
         }
     }
     Ok(said)
