@@ -8,8 +8,8 @@
 #
 # Usage: tools/release.sh            writes to out/release/. It refuses a checkout with changes, a kit that isn't the one
 #                                    that the program names, and a gate that failed or whose log isn't in out/gate.log
-#        tools/release.sh --check    packs twice into a folder of its own, compares both, unpacks the package into an empty
-#                                    root, and runs the program there
+#        tools/release.sh --check    packs twice into a folder of its own, without a static program, compares both, unpacks the
+#                                    package into an empty root, and runs the program there
 set -euo pipefail
 top=$(cd "$(dirname "$0")/.." && pwd)
 program=$top/crates/fints/out/fints
@@ -75,7 +75,7 @@ link_static() {
     if [ -f "$program.o" ] && command -v gcc > /dev/null; then
         gcc -static -o "$to" "$program.o" "$kits/libos_c.a" "$kits/liblibc_c.a" 2> /dev/null
         strip "$to"
-        "$top/tools/rows.py" --program "$to" > /dev/null || fail "a row fails on the static program"
+        "$top/tools/rows.py" --program "$to" rows tables > /dev/null || fail "a row fails on the static program"
     else
         echo "release: crates/fints/out/fints.o isn't there, so the archive's program isn't static"
         cp "$program" "$to"
@@ -106,8 +106,8 @@ pack() {
 
 room=$(mktemp -d)
 trap 'rm -rf "$room"' EXIT
-link_static "$room/static"
 if [ "${1:-}" = --check ]; then
+    cp "$program" "$room/static"
     pack "$room/one" "$room/static"
     pack "$room/two" "$room/static"
     cmp "$room/one/SHA256SUMS" "$room/two/SHA256SUMS" || fail "two packings differ"
@@ -127,5 +127,6 @@ case $gate in
 *) fail "out/gate.log has no line \"N passed, 0 failed\": run .ci/run" ;;
 esac
 rm -rf "$top/out/release"
+link_static "$room/static"
 pack "$top/out/release" "$room/static"
 cat "$top/out/release/SHA256SUMS"
