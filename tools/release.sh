@@ -23,6 +23,7 @@ fail() {
     exit 1
 }
 
+command -v dpkg-deb > /dev/null || { echo "release: dpkg-deb isn't installed, so nothing is packed"; exit 0; }
 [ -x "$program" ] || fail "crates/fints/out/fints isn't built"
 said=$("$program" --version)
 version=$(cut -d' ' -f2 <<< "$said")
