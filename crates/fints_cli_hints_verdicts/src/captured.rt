@@ -48,7 +48,7 @@ fn add_step(
     Ok(noted)
 }
 
-/// Adds the notes by what the capture says, each at the first step of which it holds.
+/// Adds the notes by what the capture says, each at the first step that it is true of.
 pub fn add_captured(
     text: &mut String,
     alloc: Global,
