@@ -188,7 +188,7 @@ class Seen:
 
 
 def breaks(script, head, case):
-    """Whether the last message of a case's run breaks what stands in the case's head."""
+    """Whether the last message of a case's run breaks what is in the case's head."""
     step, rule, name, segment = re.match(r"case \d+ (\S+) (P\d+) (\S+) segment (\d+)", head).groups()
     *_, (_, last, _, broken) = script.judged_run(case)
     return last == step and (rule, name, int(segment)) in broken

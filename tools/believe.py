@@ -69,7 +69,7 @@ def read_specs(bare):
     definitions, scopes = {}, {}
     for path in sorted(glob.glob(f"{TOP}/crates/*/specs/*.antt")):
         crate, file = path.split("/")[-3], os.path.basename(path)[:-5]
-        # what stands in the files of laws is proved
+        # what is in the files of laws is proved
         if file == "Lib" or file.endswith("Laws"):
             continue
         with open(path, encoding="utf-8") as it:

@@ -21,7 +21,7 @@ MADE = ".\\\" Made by tools/manual.py from the helps of the program.\n"
 
 
 def rows_of(text, head):
-    """The rows of a section of a help: what stands left, and right of two blanks or more."""
+    """The rows of a section of a help: what is on the left, and what is on the right of two blanks or more."""
     section = re.search(rf"^{head}[^\n]*\n((?:  .*\n?)+)", text, re.M)
     return [tuple(re.split(r"  +", line.strip(), maxsplit=1)) for line in section[1].splitlines()] if section else []
 

@@ -3,8 +3,8 @@
 rows/README.md), in the comments of the code, and in the texts that the program prints.
 
 A page is counted without its code, which may quote names and printed texts as they are. With --check the tool
-fails where the pages use a word more often than its limit, or the comments more often than that and than twice;
-printed texts are only counted.
+fails where the pages or the printed texts use a word more often than its limit, or the comments more often than that
+and than twice.
 
 Usage: tools/words.py [--check] [--lines WORD]
 """
@@ -102,7 +102,7 @@ def print_lines(word, texts):
 def main():
     """Prints the rates, or with --lines the places of a word."""
     words = argparse.ArgumentParser(description=__doc__, formatter_class=argparse.RawDescriptionHelpFormatter)
-    words.add_argument("--check", action="store_true", help="fail where the pages or the comments pass a limit")
+    words.add_argument("--check", action="store_true", help="fail where a kind of text passes a limit")
     words.add_argument("--lines", choices=WORDS, metavar="WORD", help=f"each place of one of: {', '.join(WORDS)}")
     given = words.parse_args()
     texts = read_all()
@@ -114,7 +114,7 @@ def main():
     passed = []
     for word, (_, limit, better) in WORDS.items():
         print(f"{word:<16}" + "".join(f"{rates[word]:>10.1f}" for rates, _ in counts.values()) + f"{limit:>10}")
-        for kind, most in (("docs", limit), ("comments", max(limit, LEAST_IN_COMMENTS))):
+        for kind, most in (("docs", limit), ("comments", max(limit, LEAST_IN_COMMENTS)), ("printed", limit)):
             if round(counts[kind][0][word], 1) > most:
                 passed.append(f"words: the {kind} use \"{word}\" too often; write {better} (tools/words.py --lines '{word}')")
     print(f"{'words':<16}" + "".join(f"{total:>10,}" for _, total in counts.values()))

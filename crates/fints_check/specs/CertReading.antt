@@ -6,7 +6,7 @@ use Rattle.fints_check.specs.Certificates.{line_names}
 use Rattle.fints_check.specs.CertTexts.{cert_text, IsStepLine}
 use Rattle.fints_syntax_texts.specs.declared.lines.TheConstants.{MAX_TEXT}
 use Rattle.fints_check.specs.declared.certificate.Line.{Line}
-use Rattle.fints_check.specs.declared.reading.Taken.{Taken}
+use Rattle.fints_check.specs.declared.reading.LinesSoFar.{LinesSoFar}
 
 -- no line has the name yet
 abbrev pub IsNew : List Line → Line → Type 0
@@ -19,6 +19,6 @@ pub record IsBegun (lines : List Line) : Type 0 where
   pub short : length (cert_text lines) ≤ MAX_TEXT
 
 -- a text may go on after what was taken, in whose names each name is looked up
-pub record IsReady (taken : Taken) : Type 0 where
+pub record IsReady (taken : LinesSoFar) : Type 0 where
   pub begun : IsBegun taken.lines.items
   pub names : HoldsNames (line_names taken.lines.items) taken.names

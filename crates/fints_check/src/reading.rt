@@ -103,13 +103,13 @@ fn parse_line(text: &[u8]) -> Option<Line>
 
 /// The lines so far, and their names, in which one is looked up without a walk over the lines.
 #[derive(Drop)]
-pub struct Taken {
+pub struct LinesSoFar {
     lines: Vec<Line>,
     names: BTreeSet<Name>,
 }
 
 // Adds the line, if no earlier one has its name.
-fn add(taken: &mut Taken, line: Line) -> Result<bool, Memory>
+fn add(taken: &mut LinesSoFar, line: Line) -> Result<bool, Memory>
     requires names { HoldsNames (line_names taken.old.lines.items) taken.old.names }
     ensures added { IfOk result (λ added. IsTrue added ↔ IsNew taken.old.lines.items line) }
     ensures lines { IfOk result (λ added.
@@ -125,7 +125,7 @@ fn add(taken: &mut Taken, line: Line) -> Result<bool, Memory>
     Ok(true)
 }
 
-impl LineTaker for Taken {
+impl LineTaker for LinesSoFar {
     ghost use Rattle.fints_check.specs.CertTexts.{cert_lines, AreCertLines};
     ghost use Rattle.fints_check.specs.CertReading.{IsReady};
 
@@ -153,7 +153,7 @@ impl Certificate {
         ensures certificate { IfOk result (λ certificate. IsCertificateOf text.now certificate) }
         ensures refusal { IfErr result (IsCertFault text.now) }
     {
-        let mut taken = Taken {
+        let mut taken = LinesSoFar {
             lines: Vec::new(alloc),
             names: BTreeSet::new(alloc),
         };

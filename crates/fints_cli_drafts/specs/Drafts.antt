@@ -1,7 +1,7 @@
 -- What a draft of a recorded dialogue is: the text of a script, and that of a case that has it send the client's
 -- messages once more.
-use Rattle.std.specs.Prelude.{codes, decimal, ◌≡◌, ◌≤◌, ◌+◌, ◌⊎◌, ◌&&◌, ◌||◌, ℕ, List, [], ◌∷◌, ◌++◌, length, map, get_or, Any, Option, Some, None, Bool, true, false, ◌==◌, IsTrue}
-use Rattle.std.specs.Char.{is_ascii_alphanumeric, to_ascii_lowercase}
+use Rattle.std.specs.Prelude.{codes, ◌≡◌, ◌≤◌, ◌+◌, ◌⊎◌, ◌&&◌, ◌||◌, ℕ, List, [], ◌∷◌, ◌++◌, length, get_or, Option, Some, None, Bool, true, false, ◌==◌, IsTrue}
+use Rattle.std.specs.Char.{is_ascii_alphanumeric}
 use Rattle.std.specs.List.{All, AllZip, flat_map, list_all, list_any}
 use Rattle.fints_syntax_segments.specs.Segment.{item_value}
 use Rattle.fints_syntax_segments.specs.declared.item.OwnedSegment.{OwnedSegment}
@@ -36,12 +36,11 @@ use Rattle.fints_cli_texts.specs.declared.fault.Fault.TheVariants.{Memory, Order
 use Rattle.fints_cli_drafts_accounts.specs.Offers.{IsOffer}
 use Rattle.fints_cli_drafts_accounts.specs.declared.listing.AccountList.{AccountList}
 use Rattle.fints_cli_drafts_alike.specs.Alike.{IsSentAgain}
+use Rattle.fints_cli_drafts_names.specs.Names.{IsFieldName, IsSignerName, IsStepName}
 use Rattle.fints_cli_drafts_texts.specs.DraftText.{draft_text}
 use Rattle.fints_cli_drafts_texts.specs.declared.notes.Notes.{Notes}
 use Rattle.fints_cli_drafts.specs.declared.drafting.Drafted.{Drafted}
 use Rattle.fints_cli_drafts.specs.declared.drafting.Drafted.TheVariants.{Script, Case}
-use Rattle.fints_cli_drafts.specs.declared.fields.Purpose.{Purpose}
-use Rattle.fints_cli_drafts.specs.declared.fields.Purpose.TheVariants as purposes
 
 -- ---- a dialogue sent once more
 
@@ -122,57 +121,6 @@ IsDraftClass Lists (classes.Text c) = IsTrue (is_draft_text c)
 IsDraftClass Lists (classes.Bin c) = (c.min ≡ 1) × (c.max ≡ 99)
 IsDraftClass Lists (classes.OneOf c) = ⊥
 IsDraftClass Lists (classes.Account c) = Lists c.values
-
--- ---- no secret in a name
-
--- the name is the word and a number up to 100
-abbrev pub IsNumbered : List ℕ → List ℕ → Type 0
-IsNumbered word name = (n : ℕ) × (n ≤ 100) × (name ≡ word ++ decimal n)
-
--- the name is the word, with a number or without
-abbrev pub IsWord : List ℕ → List ℕ → Type 0
-IsWord word name = (name ≡ word) ⊎ IsNumbered word name
-
-abbrev pub IsBinWord : List ℕ → List ℕ → Type 0
-IsBinWord word name = (rest : List ℕ) × (name ≡ codes "bin" ++ rest) × IsWord word rest
-
--- the word for what the value of a field is
-abbrev pub word_of : Purpose → List ℕ
-word_of (purposes.Reference signature) = codes "ref"
-word_of purposes.Date = codes "date"
-word_of purposes.Time = codes "time"
-word_of purposes.Pin = codes "pin"
-word_of (purposes.Tan signature) = codes "tan"
-word_of purposes.FurtherSecret = codes "secret"
-word_of purposes.NewPin = codes "newpin"
-word_of purposes.OrderReference = codes "orderref"
-word_of (purposes.Account list) = codes "account"
-
--- the name of a field of this purpose, whose values are texts or binary
-abbrev pub IsNameFor : Purpose → List ℕ → Type 0
-IsNameFor purpose name = IsWord (word_of purpose) name ⊎ IsBinWord (word_of purpose) name
-
--- the name of the dialogue's id, or of a field of some purpose
-abbrev pub IsFieldName : List ℕ → Type 0
-IsFieldName name = (name ≡ codes "dialog") ⊎ ((purpose : Purpose) × IsNameFor purpose name)
-
-abbrev pub IsSignerName : Signer → Type 0
-IsSignerName signer = IsWord (codes "signer") signer.name
-
--- the letters are those of the template's kind, in upper or lower case
-abbrev pub SpellsKind : List ℕ → Template → Type 0
-SpellsKind letters t = map to_ascii_lowercase letters ≡ map to_ascii_lowercase t.kind
-
--- the name is this front, or it, a dash and the kind of a segment
-abbrev pub IsNameAfter : List ℕ → List Template → List ℕ → Type 0
-IsNameAfter front templates name =
-    (name ≡ front)
-    ⊎ ((letters : List ℕ) × (name ≡ front ++ (codes "-" ++ letters)) × Any (SpellsKind letters) templates)
-
--- the name of a step: the number of its message, up to the most of the recording, and the kind of one of its segments
-abbrev pub IsStepName : ℕ → StepValue → Type 0
-IsStepName most step =
-    (n : ℕ) × (n ≤ most) × IsNameAfter (codes "m" ++ decimal n) step.templates step.name
 
 -- ---- no secret in a script
 

@@ -8,7 +8,7 @@ ghost use Rattle.fints_cli_drafts_accounts.specs.Offers.{IsOffer};
 ghost use Rattle.fints_cli_drafts.specs.Drafts.{answers_of, drafted_text, IsDraft, IsDraftOf, IsDraftRefusal, IsPartDraft, IsUndrafted};
 
 use crate::blank::{has_secret, keeps_secrets};
-use crate::place::{Place, Undrafted};
+use crate::place::{SegmentPlace, Undrafted};
 use crate::printing::printed;
 use crate::replaying::{answers_of, replay};
 use crate::sketching::{Sketch, sketch_of};
@@ -17,7 +17,9 @@ use crate::within::place_within;
 use fints_cli_drafts_accounts::offers_of;
 use fints_cli_texts::{Fault, good_log};
 use fints_rules::OrderTable;
-use fints_rules_dialogues::{DialogueFault, Exchange, Log, Part, part_of, read_dialogue_with};
+use fints_rules_dialogues::{
+    DialogueFault, DialoguePart, Exchange, Log, part_of, read_dialogue_with,
+};
 use fints_rules_messages::UnreadObserver;
 use fints_script::{Answer, Case, CaseFault, Values};
 use std::alloc::Global;
@@ -51,7 +53,7 @@ fn case_of(alloc: Global, text: &[u8]) -> Result<Case, Undrafted>
     match Case::read(alloc, text) {
         Ok(case) => Ok(case),
         Err(CaseFault::Memory) => Err(Undrafted::Memory),
-        Err(CaseFault::Bad { .. }) => Err(Place::whole(0).refused()),
+        Err(CaseFault::Bad { .. }) => Err(SegmentPlace::whole(0).refused()),
     }
 }
 
@@ -90,7 +92,7 @@ fn case_text(
     let text = case.write(alloc)?;
     let read = case_of(alloc, text.as_slice())?;
     if !are_same(read.answers.as_slice(), case.answers.as_slice()) {
-        return Err(Place::whole(0).refused());
+        return Err(SegmentPlace::whole(0).refused());
     }
     Ok((text, read))
 }
@@ -110,7 +112,7 @@ fn tried(
 {
     let draft = printed(alloc, &sketch)?;
     if !keeps_secrets(orders.offers.lists.as_slice(), messages, &draft.script) {
-        return Err(Place::whole(0).refused());
+        return Err(SegmentPlace::whole(0).refused());
     }
     let (case, read) = case_text(alloc, sketch.values, exchanges)?;
     replay(alloc, orders.table, exchanges, &draft.script, &read)?;
@@ -126,7 +128,7 @@ fn draft_of(
     alloc: Global,
     table: &OrderTable,
     exchanges: &[Exchange<'_>],
-    part: &Part<'_, '_>,
+    part: &DialoguePart<'_, '_>,
 ) -> Result<Draft, Undrafted>
     ensures { IfOk result (λ draft. IsDraft table.now exchanges.now part.now.exchanges.now
         draft.script.items draft.case.items draft.has_secret) }
@@ -147,7 +149,7 @@ fn refusal_of(exchanges: &[Exchange<'_>], before: usize, undrafted: Undrafted) -
     match undrafted {
         Undrafted::Memory => Fault::Memory,
         Undrafted::At(place) => {
-            let Place { message, segment } = place_within(exchanges, place.after(before));
+            let SegmentPlace { message, segment } = place_within(exchanges, place.after(before));
             Fault::NotDraftable { message, segment }
         }
     }

@@ -1,10 +1,11 @@
 //! The elements of a recorded segment, as they are written in a script.
-use crate::fields::{DraftFields, Purpose};
-use crate::place::{Place, Undrafted};
+use crate::fields::DraftFields;
+use crate::place::{SegmentPlace, Undrafted};
 use crate::recorded::Recorded;
 use crate::texts::write_item;
 use fints_cli_drafts_accounts::Offer;
 use fints_cli_drafts_alike::{is_empty, refers};
+use fints_cli_drafts_names::Purpose;
 use fints_cli_texts::has_reference;
 use fints_syntax::{ElementRef, ItemRef, OwnedSegment};
 use std::alloc::Global;
@@ -44,8 +45,8 @@ impl<'a> Written<'a> {
     }
 
     /// Its place in the dialogue.
-    pub fn place(&self) -> Place {
-        Place {
+    pub fn place(&self) -> SegmentPlace {
+        SegmentPlace {
             message: self.message,
             segment: usize::from(self.segment.head.number),
         }

@@ -1,103 +1,14 @@
 //! The fields of a draft: what a client makes new for each message, and its secrets. Neither is a text
 //! of the script (FinTS 3.0, Formals, HNSHK and HNSHA; Security PIN/TAN, HNSHA, HKPAE and HKTAN); and the accounts
 //! of orders.
-ghost use Rattle.std.specs.Prelude.{◌≡◌};
-ghost use Rattle.fints_cli_drafts.specs.Drafts.{word_of};
-
-use crate::place::{Place, Undrafted};
+use crate::place::{SegmentPlace, Undrafted};
 use crate::texts::write_account;
 use fints_cli_drafts_accounts::{Offer, Offers};
+use fints_cli_drafts_names::Purpose;
 use fints_script::limits::MAX_FIELDS;
 use fints_script::{Name, Values};
-use fints_script_fields::Alphabet;
 use fints_syntax::{Bytes, ItemRef, Memory};
 use std::alloc::{AllocError, Global};
-
-/// What the value of a field is. A signature has the place of its HNSHK among those of a message, from 1.
-#[derive(Clone, Copy, PartialEq, Eq)]
-pub enum Purpose {
-    /// The control reference of a signature.
-    Reference(usize),
-    Date,
-    Time,
-    Pin,
-    /// The TAN of a signature.
-    Tan(usize),
-    /// What comes after PIN and TAN, which the standard doesn't know.
-    FurtherSecret,
-    NewPin,
-    /// The bank's reference of an order.
-    OrderReference,
-    /// An account of a list, by the place of the list among all, from 0.
-    Account(usize),
-}
-
-impl Purpose {
-    /// Whether it is a secret.
-    pub fn is_secret(self) -> bool {
-        matches!(
-            self,
-            Purpose::Pin | Purpose::Tan(_) | Purpose::FurtherSecret | Purpose::NewPin
-        )
-    }
-
-    // Whether one field serves for all its values, so that a run sends the first of them in each message.
-    fn has_one_field(self, binary: bool) -> bool {
-        match self {
-            Purpose::Pin | Purpose::FurtherSecret | Purpose::NewPin | Purpose::Account(_) => false,
-            _ => !binary,
-        }
-    }
-
-    /// The word in the name of its field.
-    pub fn word(self) -> &'static str
-        ensures { result.now ≡ word_of self }
-    {
-        match self {
-            Purpose::Reference(_) => "ref",
-            Purpose::Date => "date",
-            Purpose::Time => "time",
-            Purpose::Pin => "pin",
-            Purpose::Tan(_) => "tan",
-            Purpose::FurtherSecret => "secret",
-            Purpose::NewPin => "newpin",
-            Purpose::OrderReference => "orderref",
-            Purpose::Account(_) => "account",
-        }
-    }
-
-    // The class of its field where it was sent as a text, and the least and the most bytes of a value. They
-    // are those of the standard: nothing in them comes from a recorded value. An account has the length of a
-    // listed one.
-    fn bounds(self) -> (&'static str, usize, usize) {
-        match self {
-            Purpose::Reference(_) => ("text", 1, 14),
-            Purpose::Date => ("digits", 8, 8),
-            Purpose::Time => ("digits", 6, 6),
-            Purpose::Pin | Purpose::Tan(_) | Purpose::FurtherSecret | Purpose::NewPin => {
-                ("text", 1, 99)
-            }
-            Purpose::OrderReference => ("text", 1, 35),
-            Purpose::Account(_) => ("account", 1, usize::MAX),
-        }
-    }
-
-    // Whether its field can have these bytes as its value.
-    fn admits(self, binary: bool, value: &[u8]) -> bool {
-        let (class, least, most) = self.bounds();
-        let alphabet = if class == "digits" {
-            Alphabet::Digits
-        } else {
-            Alphabet::Latin
-        };
-        let is_spelled = if binary {
-            self.is_secret()
-        } else {
-            value.iter().all(|b| alphabet.has(*b))
-        };
-        is_spelled && least <= value.len() && value.len() <= most
-    }
-}
 
 // A field, and its number among those with its word, from 1.
 #[derive(Drop)]
@@ -200,7 +111,7 @@ impl DraftFields {
         alloc: Global,
         purpose: Purpose,
         item: &ItemRef<'_>,
-        place: Place,
+        place: SegmentPlace,
     ) -> Result<usize, Undrafted> {
         let (binary, value) = parts_of(item);
         if let Some(found) = self
@@ -242,7 +153,7 @@ impl DraftFields {
         text: &mut String,
         purpose: Purpose,
         item: &ItemRef<'_>,
-        place: Place,
+        place: SegmentPlace,
     ) -> Result<bool, Undrafted> {
         let (binary, value) = parts_of(item);
         if !purpose.admits(binary, value) {
@@ -264,7 +175,7 @@ impl DraftFields {
         text: &mut String,
         offer: Offer,
         account: &[u8],
-        place: Place,
+        place: SegmentPlace,
     ) -> Result<(), Undrafted> {
         let purpose = Purpose::Account(offer.list);
         let found = self.place_of(alloc, purpose, &ItemRef::Text(account), place)?;

@@ -6,7 +6,6 @@ mod blank;
 mod drafting;
 mod elements;
 mod fields;
-mod names;
 mod notes;
 mod place;
 mod printing;

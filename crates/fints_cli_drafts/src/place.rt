@@ -8,7 +8,7 @@ use std::alloc::{AllocError, AllocFailed};
 /// A segment of a message of the client, which counts from 1: segment 0 is the message as a whole, and
 /// message 0 the dialogue.
 #[derive(Clone, Copy)]
-pub struct Place {
+pub struct SegmentPlace {
     pub message: usize,
     pub segment: usize,
 }
@@ -17,26 +17,26 @@ pub struct Place {
 #[derive(Clone, Copy)]
 pub enum Undrafted {
     Memory,
-    At(Place),
+    At(SegmentPlace),
 }
 
-impl Place {
+impl SegmentPlace {
     /// A message as a whole.
-    pub fn whole(message: usize) -> Place
+    pub fn whole(message: usize) -> SegmentPlace
         ensures { result ≡ record { message = message; segment = 0 } }
     {
-        Place {
+        SegmentPlace {
             message,
             segment: 0,
         }
     }
 
     /// The same place of a recording in which this many messages of the client come before the dialogue.
-    pub fn after(self, before: usize) -> Place {
+    pub fn after(self, before: usize) -> SegmentPlace {
         if self.message == 0 {
             return self;
         }
-        Place {
+        SegmentPlace {
             message: self.message.saturating_add(before),
             segment: self.segment,
         }

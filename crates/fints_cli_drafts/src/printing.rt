@@ -3,7 +3,7 @@ ghost use Rattle.std.specs.Prelude.{◌≡◌, IfOk, IsTrue};
 ghost use Rattle.fints_script.specs.Scripts.{Denotes};
 ghost use Rattle.fints_cli_drafts_texts.specs.DraftText.{draft_text};
 
-use crate::place::{Place, Undrafted};
+use crate::place::{SegmentPlace, Undrafted};
 use crate::sketching::Sketch;
 use fints_cli_drafts_texts::draft_text;
 use fints_script::{FaultKind, Script};
@@ -53,7 +53,7 @@ pub fn printed(alloc: Global, sketch: &Sketch) -> Result<PrintedScript, Undrafte
     let first = printed_of(alloc, sketch.script.as_bytes(), sketch)?.text;
     let printed = printed_of(alloc, first.as_slice(), sketch)?;
     if !is_same(first.as_slice(), printed.text.as_slice()) {
-        return Err(Place::whole(0).refused());
+        return Err(SegmentPlace::whole(0).refused());
     }
     Ok(printed)
 }

@@ -2,7 +2,7 @@
 ghost use Rattle.std.specs.Prelude.{◌≡◌, ◌++◌, IfNone, IfOk, OnOk};
 ghost use Rattle.fints_cli_drafts.specs.Drafts.{answers_of, answer_in, AreSentAgain, Replays};
 
-use crate::place::{Place, Undrafted};
+use crate::place::{SegmentPlace, Undrafted};
 use fints_cli_drafts_alike::other_sent;
 use fints_params::Code;
 use fints_rules::OrderTable;
@@ -13,7 +13,7 @@ use fints_wire::{Sent, run};
 use std::alloc::{AllocError, Global};
 
 // The place of the dialogue's id, the one value that no field may be made for.
-const DIALOGUE_ID: Place = Place {
+const DIALOGUE_ID: SegmentPlace = SegmentPlace {
     message: 2,
     segment: 1,
 };
@@ -40,7 +40,7 @@ fn add_answer(
     };
     let codes = copied_codes(alloc, answer.codes.as_slice())?;
     let Some(answer) = Answer::new(codes) else {
-        return Err(Place::whole(0).refused());
+        return Err(SegmentPlace::whole(0).refused());
     };
     answers.push(answer)?;
     Ok(())
@@ -62,17 +62,17 @@ fn other_place(
     alloc: Global,
     exchanges: &[Exchange<'_>],
     sent: &[Sent],
-) -> Result<Option<Place>, Memory>
+) -> Result<Option<SegmentPlace>, Memory>
     ensures { IfOk result (λ other. IfNone other (AreSentAgain exchanges.now sent.now)) }
 {
     if sent.len() != exchanges.len() {
-        return Ok(Some(Place::whole(sent.len() + 1)));
+        return Ok(Some(SegmentPlace::whole(sent.len() + 1)));
     }
     for i in 0..exchanges.len() {
         let other = other_sent(alloc, exchanges[i].sent.bytes, sent[i].bytes.as_slice())?;
         if let Some(segment) = other {
             let message = i + 1;
-            return Ok(Some(Place { message, segment }));
+            return Ok(Some(SegmentPlace { message, segment }));
         }
     }
     Ok(None)
@@ -85,7 +85,7 @@ fn plan_of<'a>(script: &'a Script, orders: &'a OrderTable) -> Result<Plan<'a>, U
     match script.plan(orders) {
         Ok(plan) => Ok(plan),
         Err(PlanFault::OpenAccount { step, segment } | PlanFault::OpenProcess { step, segment }) =>
-            Err(Undrafted::At(Place {
+            Err(Undrafted::At(SegmentPlace {
                 message: step,
                 segment,
             })),

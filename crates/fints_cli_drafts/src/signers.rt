@@ -2,7 +2,7 @@
 //! writes them.
 use crate::elements::{Written, write_elements};
 use crate::fields::DraftFields;
-use crate::place::{Place, Undrafted};
+use crate::place::{SegmentPlace, Undrafted};
 use crate::recorded::Recorded;
 use crate::texts::write_number;
 use fints_script::limits::{MAX_SIGNATURES, MAX_SIGNERS};
@@ -12,7 +12,7 @@ use std::alloc::{AllocError, Global};
 #[derive(Drop)]
 struct SignerRow {
     row: String,
-    met: Place,
+    met: SegmentPlace,
 }
 
 /// The signers that were met.
@@ -63,7 +63,7 @@ impl Signers {
     }
 
     /// Where a signer, which counts from 1, was met first.
-    pub fn met(&self, signer: usize) -> Option<Place> {
+    pub fn met(&self, signer: usize) -> Option<SegmentPlace> {
         if signer == 0 {
             return None;
         }

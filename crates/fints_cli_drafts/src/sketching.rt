@@ -2,14 +2,14 @@
 use crate::elements::{Written, write_elements};
 use crate::fields::DraftFields;
 use crate::notes::seal_note;
-use crate::place::{Place, Undrafted};
+use crate::place::{SegmentPlace, Undrafted};
 use crate::recorded::Recorded;
 use crate::signers::Signers;
 use crate::steps::{Common, Orders, write_step};
 use crate::turns::{Turn, ways_of};
 use fints_cli_drafts_accounts::Offers;
 use fints_cli_drafts_texts::Notes;
-use fints_rules_dialogues::{Exchange, Part};
+use fints_rules_dialogues::{DialoguePart, Exchange};
 use fints_script::limits::MAX_STEPS;
 use fints_script::{Name, Values};
 use fints_syntax_segments::{HNVSK_NUMBER, Memory};
@@ -61,21 +61,22 @@ pub struct Sketch {
     pub notes: Notes,
     pub values: Values,
     signers: Signers,
-    seal_met: Place,
+    seal_met: SegmentPlace,
 }
 
 impl Sketch {
     /// The place in the dialogue that a place of the script was drafted from.
-    pub fn source(&self, place: fints_script::Place) -> Place {
+    pub fn source(&self, place: fints_script::SegmentPlace) -> SegmentPlace {
         match place {
-            fints_script::Place::Step(row) => Place::whole(usize::from(row)),
-            fints_script::Place::Seal => self.seal_met,
-            fints_script::Place::Signer(row) => {
+            fints_script::SegmentPlace::Step(row) => SegmentPlace::whole(usize::from(row)),
+            fints_script::SegmentPlace::Seal => self.seal_met,
+            fints_script::SegmentPlace::Signer(row) => {
                 self.signers
                     .met(usize::from(row))
-                    .unwrap_or(Place::whole(0))
+                    .unwrap_or(SegmentPlace::whole(0))
             }
-            fints_script::Place::Top | fints_script::Place::Field(_) => Place::whole(0),
+            fints_script::SegmentPlace::Top | fints_script::SegmentPlace::Field(_) =>
+                SegmentPlace::whole(0),
         }
     }
 }
@@ -154,11 +155,11 @@ fn joined(
 pub fn sketch_of(
     alloc: Global,
     orders: &Orders<'_>,
-    part: Part<'_, '_>,
+    part: DialoguePart<'_, '_>,
 ) -> Result<Sketch, Undrafted> {
     let exchanges = part.exchanges;
     if exchanges.len() > MAX_STEPS {
-        return Err(Place::whole(MAX_STEPS + 1).refused());
+        return Err(SegmentPlace::whole(MAX_STEPS + 1).refused());
     }
     let mut common = Common {
         fields: DraftFields::new(alloc),
@@ -178,8 +179,8 @@ pub fn sketch_of(
     let values = values_of(alloc, &common.fields, exchanges)?;
     let script = joined(alloc, &common, &seal, orders.offers, steps.as_str())?;
     let seal_met = match &seal.first {
-        None => Place::whole(0),
-        Some((_, message)) => Place {
+        None => SegmentPlace::whole(0),
+        Some((_, message)) => SegmentPlace {
             message: *message,
             segment: usize::from(HNVSK_NUMBER),
         },

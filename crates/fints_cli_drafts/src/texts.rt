@@ -1,7 +1,7 @@
 //! The strings of a script: items as they are written in TOML; and its numbers.
 ghost use Rattle.std.specs.Prelude.{◌≡◌, ◌++◌, OnOk, decimal, string_bytes};
 
-use crate::place::{Place, Undrafted};
+use crate::place::{SegmentPlace, Undrafted};
 use fints_script_fields::Alphabet;
 use fints_syntax::{Bytes, ItemRef};
 use itoa::Buffer;
@@ -26,7 +26,7 @@ fn write_characters(text: &mut String, value: &[u8]) -> Result<(), AllocError> {
     Ok(())
 }
 
-fn write_literal(text: &mut String, value: &[u8], place: Place) -> Result<(), Undrafted> {
+fn write_literal(text: &mut String, value: &[u8], place: SegmentPlace) -> Result<(), Undrafted> {
     if !value.iter().all(|b| Alphabet::Latin.has(*b)) {
         return Err(place.refused());
     }
@@ -44,7 +44,7 @@ pub fn write_item(
     alloc: Global,
     text: &mut String,
     item: &ItemRef<'_>,
-    place: Place,
+    place: SegmentPlace,
 ) -> Result<(), Undrafted> {
     text.push('"')?;
     match item {

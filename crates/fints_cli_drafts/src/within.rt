@@ -4,7 +4,7 @@ ghost use Rattle.std.specs.List.{list_any};
 ghost use Rattle.fints_syntax.specs.Owned.{segment_of};
 ghost use Rattle.fints_cli_drafts.specs.Drafts.{HasSegment, IsPlaceIn, has_number};
 
-use crate::place::Place;
+use crate::place::SegmentPlace;
 use fints_rules_dialogues::Exchange;
 use fints_rules_messages::Message;
 use fints_syntax::SegmentView;
@@ -41,15 +41,15 @@ fn has_segment(message: &Message<'_>, number: usize) -> bool
 }
 
 /// The place, where the dialogue has it; else its message as a whole, or the dialogue.
-pub fn place_within(exchanges: &[Exchange<'_>], place: Place) -> Place
+pub fn place_within(exchanges: &[Exchange<'_>], place: SegmentPlace) -> SegmentPlace
     ensures { IsPlaceIn exchanges.now result.message result.segment }
 {
     if place.message == 0 || place.message > exchanges.len() {
-        return Place::whole(0);
+        return SegmentPlace::whole(0);
     }
     let exchange = &exchanges[place.message - 1];
     if place.segment == 0 || has_segment(&exchange.message, place.segment) {
         return place;
     }
-    Place::whole(place.message)
+    SegmentPlace::whole(place.message)
 }

@@ -1,5 +1,5 @@
 //! By what an order is known, so that what was asked once isn't asked again.
-use fints_rules_dialogues::{Basis, Sent};
+use fints_rules_dialogues::{Basis, RecordedMessage};
 use fints_syntax::OwnedSegment;
 use std::alloc::{AllocError, Global};
 
@@ -8,7 +8,7 @@ fn add_number(key: &mut Vec<u8>, number: usize) -> Result<(), AllocError> {
 }
 
 // Adds where a message of the bank begins.
-fn add_sent(key: &mut Vec<u8>, sent: &Option<Sent<'_>>) -> Result<(), AllocError> {
+fn add_sent(key: &mut Vec<u8>, sent: &Option<RecordedMessage<'_>>) -> Result<(), AllocError> {
     match sent {
         None => key.push(0)?,
         Some(sent) => {

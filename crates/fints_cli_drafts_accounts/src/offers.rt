@@ -5,7 +5,9 @@ ghost use Rattle.fints_cli_drafts_accounts.specs.Offers.{Adds, AreOffered, IsLis
 
 use crate::keys::key_of;
 use crate::listing::{AccountList, accounts_for};
-use fints_rules_dialogues::{Basis, DialogueFault, Exchange, OwnParams, OwnPermissions, Part};
+use fints_rules_dialogues::{
+    Basis, DialogueFault, DialoguePart, Exchange, OwnParams, OwnPermissions,
+};
 use fints_rules_messages::Message;
 use fints_rules_permissions::OrderTable;
 use fints_script_fields::{AccountValue, Listed};
@@ -194,7 +196,7 @@ fn offers_by(
     alloc: Global,
     bases: &[Basis<'_>],
     exchanges: &[Exchange<'_>],
-    part: &Part<'_, '_>,
+    part: &DialoguePart<'_, '_>,
 ) -> Result<Offers, Memory>
     ensures { IfOk result (λ offers. All (IsOfferBy exchanges.now bases.now) offers.lists.items) }
 {
@@ -226,7 +228,7 @@ fn offers_told(
     orders: &OrderTable,
     own: &OwnParams<'_>,
     exchanges: &[Exchange<'_>],
-    part: &Part<'_, '_>,
+    part: &DialoguePart<'_, '_>,
 ) -> Result<Offers, Memory>
     ensures { IfOk result (λ offers. AreHeard exchanges.now own.now
         → All (IsOffer orders.now exchanges.now) offers.lists.items) }
@@ -249,7 +251,7 @@ pub fn offers_of(
     alloc: Global,
     orders: &OrderTable,
     exchanges: &[Exchange<'_>],
-    part: &Part<'_, '_>,
+    part: &DialoguePart<'_, '_>,
 ) -> Result<Offers, Memory>
     ensures { IfOk result (λ offers. All (IsOffer orders.now exchanges.now) offers.lists.items) }
 {

@@ -2,7 +2,7 @@
 //! is never shown, nor is a line that has no other form.
 use crate::labels::label_of;
 use crate::lines::{Line, Opening, has_line, line_of, line_with_name, told_line};
-use fints_cli_hints_words::places::{Told, told};
+use fints_cli_hints_words::places::{HintText, say};
 use fints_params::Code;
 use fints_script::Script;
 use fints_script_fields::Name;
@@ -12,7 +12,7 @@ use std::alloc::Global;
 
 const OPENING: Opening = Opening {
     first: "the first line must be \"fints-case 1\", with its line feed",
-    second: "the text ends before it; \"field dialog VALUE\" must stand there",
+    second: "the text ends before it; it must be \"field dialog VALUE\"",
 };
 
 // What is wrong with a value as it is written.
@@ -38,21 +38,21 @@ fn hex_slip(value: &[u8]) -> Option<&'static str> {
 }
 
 // Why the line of a field with a good value may not be there.
-fn order_text(alloc: Global, fields: &[NamedField], line: &Line<'_>, name: Name) -> Told {
+fn order_text(alloc: Global, fields: &[NamedField], line: &Line<'_>, name: Name) -> HintText {
     let shown = label_of(alloc, fields, &name)?;
     let number = line.number;
     if let Some(earlier) = line_with_name(line.before, b"field ", name.as_bytes()) {
-        return told(
+        return say(
             alloc,
-            format_args!("line {number}: {shown} stands in line {earlier} already"),
+            format_args!("line {number}: {shown} is in line {earlier} already"),
         );
     }
     let why = if has_line(line.before, b"answer") {
-        "stands behind an answer; all fields come first"
+        "comes after an answer; all fields come first"
     } else {
         "is the first; the first is dialog, the id of the dialogue"
     };
-    told(alloc, format_args!("line {number}: {shown} {why}"))
+    say(alloc, format_args!("line {number}: {shown} {why}"))
 }
 
 fn named_text(
@@ -61,16 +61,16 @@ fn named_text(
     line: &Line<'_>,
     name: Name,
     value: &[u8],
-) -> Told {
+) -> HintText {
     let Some(why) = hex_slip(value) else {
         return order_text(alloc, fields, line, name);
     };
     let shown = label_of(alloc, fields, &name)?;
     let number = line.number;
-    told(alloc, format_args!("line {number}: {shown}: {why}"))
+    say(alloc, format_args!("line {number}: {shown}: {why}"))
 }
 
-fn field_text(alloc: Global, fields: &[NamedField], line: &Line<'_>, rest: &[u8]) -> Told {
+fn field_text(alloc: Global, fields: &[NamedField], line: &Line<'_>, rest: &[u8]) -> HintText {
     let Some((name, value)) = split_once(rest, b' ') else {
         return told_line(
             alloc,
@@ -83,7 +83,7 @@ fn field_text(alloc: Global, fields: &[NamedField], line: &Line<'_>, rest: &[u8]
         None => told_line(
             alloc,
             line.number,
-            "behind \"field \" stands no name; one has 1 to 40 characters a to z, 0 to 9, _ and -",
+            "after \"field \" there is no name; one has 1 to 40 characters a to z, 0 to 9, _ and -",
         ),
     }
 }
@@ -104,7 +104,7 @@ fn bad_code(codes: &[u8]) -> usize {
     count
 }
 
-fn answer_text(alloc: Global, line: &Line<'_>, codes: &[u8]) -> Told {
+fn answer_text(alloc: Global, line: &Line<'_>, codes: &[u8]) -> HintText {
     let number = line.number;
     if codes.is_empty() {
         return told_line(
@@ -117,17 +117,17 @@ fn answer_text(alloc: Global, line: &Line<'_>, codes: &[u8]) -> Told {
         return told_line(
             alloc,
             number,
-            "an answer stands before the fields; the first line behind \"fints-case 1\" tells the field dialog",
+            "an answer comes before the fields; the first line after \"fints-case 1\" has the field dialog",
         );
     }
     let code = bad_code(codes);
-    told(
+    say(
         alloc,
-        format_args!("line {number}: code {code} of the answer isn't four digits behind one space"),
+        format_args!("line {number}: code {code} of the answer isn't four digits after one space"),
     )
 }
 
-fn line_text(alloc: Global, fields: &[NamedField], line: &Line<'_>) -> Told {
+fn line_text(alloc: Global, fields: &[NamedField], line: &Line<'_>) -> HintText {
     if line.number <= 1 {
         return told_line(alloc, 1, OPENING.first);
     }
@@ -144,7 +144,7 @@ fn line_text(alloc: Global, fields: &[NamedField], line: &Line<'_>) -> Told {
     }
 }
 
-fn place_text(alloc: Global, fields: &[NamedField], line: u32, text: &[u8]) -> Told {
+fn place_text(alloc: Global, fields: &[NamedField], line: u32, text: &[u8]) -> HintText {
     match line_of(&OPENING, text, line) {
         Ok(line) => line_text(alloc, fields, &line),
         Err(why) => told_line(alloc, line, why),
@@ -152,7 +152,7 @@ fn place_text(alloc: Global, fields: &[NamedField], line: u32, text: &[u8]) -> T
 }
 
 /// Why a line of a case is none, where the case is one for this script.
-pub fn case_hint(alloc: Global, line: u32, script: &[u8], text: &[u8]) -> Told {
+pub fn case_hint(alloc: Global, line: u32, script: &[u8], text: &[u8]) -> HintText {
     match Script::read(alloc, script) {
         Ok(script) => place_text(alloc, script.fields(), line, text),
         Err(_) => place_text(alloc, &[], line, text),

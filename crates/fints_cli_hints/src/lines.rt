@@ -1,5 +1,5 @@
 //! Lines of a text of lines: where one is, how it ends, and which earlier ones there are.
-use fints_cli_hints_words::places::{Told, told};
+use fints_cli_hints_words::places::{HintText, say};
 use fints_syntax_texts::{after, split_once};
 use std::alloc::Global;
 
@@ -51,7 +51,7 @@ pub fn line_of<'a>(
     let rest = text.get(at..).unwrap_or(&[]);
     match split_once(rest, b'\n') {
         None => Err(bad_end(opening, number, rest)),
-        Some(([.., b'\r'], _)) => Err("a carriage return stands before its line feed"),
+        Some(([.., b'\r'], _)) => Err("a carriage return comes before its line feed"),
         Some((line, _)) => Ok(Line {
             number,
             text: line,
@@ -61,8 +61,8 @@ pub fn line_of<'a>(
 }
 
 /// What is wrong with the line of a number.
-pub fn told_line(alloc: Global, number: u32, why: &str) -> Told {
-    told(alloc, format_args!("line {number}: {why}"))
+pub fn told_line(alloc: Global, number: u32, why: &str) -> HintText {
+    say(alloc, format_args!("line {number}: {why}"))
 }
 
 // Whether the line is this word, the name and a space, and what follows.

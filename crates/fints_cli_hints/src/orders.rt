@@ -1,9 +1,9 @@
 //! What the refusal of an order table is about.
 use fints_cli_hints_words::guessing::guess_of;
 use fints_cli_hints_words::keys::{
-    Form, Wanted, missing_key, must_be, no_table, unknown_key, wrong_value,
+    Form, WantedKey, missing_key, must_be, no_table, unknown_key, wrong_value,
 };
-use fints_cli_hints_words::places::{Told, row_at, row_named, text_in, told, told_at};
+use fints_cli_hints_words::places::{HintText, row_at, row_named, say, say_at, text_in};
 use fints_cli_hints_words::quoting::Quoted;
 use fints_cli_hints_words::tables::rows_of;
 use fints_cli_hints_words::unread::why_no_toml;
@@ -23,17 +23,17 @@ fn bad_kind(text: &str) -> Option<&'static str> {
     match Kind::parse(text.as_bytes()) {
         Some(kind) if is_table_kind(kind) => None,
         Some(kind) if !is_plain_order(kind) => {
-            Some("names no account, and may not stand in an order table")
+            Some("names no account, and may not be in an order table")
         }
         _ => Some(
-            "is none of an order; one has five characters A to Z and 0 to 9, of which HK or DK are the first",
+            "is none of an order; one has five characters A to Z and 0 to 9, and begins with HK or DK",
         ),
     }
 }
 
-fn form_slip(alloc: Global, text: &str) -> Told {
+fn form_slip(alloc: Global, text: &str) -> HintText {
     let guess = guess_of(alloc, &WORDS, text)?;
-    told(
+    say(
         alloc,
         format_args!(
             ": account is {guess}, and must be \"none\", \"national\" or \"international\""
@@ -41,23 +41,23 @@ fn form_slip(alloc: Global, text: &str) -> Told {
     )
 }
 
-const KEYS: [Wanted; 4] = [
-    Wanted {
+const KEYS: [WantedKey; 4] = [
+    WantedKey {
         key: "kind",
         form: Form::Text,
         what: "a text",
     },
-    Wanted {
+    WantedKey {
         key: "version",
         form: Form::Integer,
         what: "a number from 1 to 999, without quotes",
     },
-    Wanted {
+    WantedKey {
         key: "version",
         form: Form::Within(1, 999),
         what: "a number from 1 to 999, without quotes",
     },
-    Wanted {
+    WantedKey {
         key: "account",
         form: Form::Text,
         what: "\"none\", \"national\" or \"international\"",
@@ -65,18 +65,18 @@ const KEYS: [Wanted; 4] = [
 ];
 
 // What is wrong with values of the right forms.
-fn wrong_text(alloc: Global, table: &Table) -> Told {
+fn wrong_text(alloc: Global, table: &Table) -> HintText {
     let kind = text_at(table, "kind").unwrap_or("");
     match bad_kind(kind) {
         Some(why) => {
             let shown = Quoted(kind);
-            told(alloc, format_args!(": the kind {shown} {why}"))
+            say(alloc, format_args!(": the kind {shown} {why}"))
         }
         None => form_slip(alloc, text_at(table, "account").unwrap_or("")),
     }
 }
 
-fn table_slip(alloc: Global, table: &Table) -> Told {
+fn table_slip(alloc: Global, table: &Table) -> HintText {
     let keys = ["kind", "version", "account"];
     let found = unknown_key(alloc, table, &keys, "an order")?;
     if found.is_some() {
@@ -92,7 +92,7 @@ fn table_slip(alloc: Global, table: &Table) -> Told {
     }
 }
 
-fn bad_row(alloc: Global, rows: &[Value], number: u16) -> Told {
+fn bad_row(alloc: Global, rows: &[Value], number: u16) -> HintText {
     let Some(row) = row_at(rows, number) else {
         return Ok(None);
     };
@@ -100,7 +100,7 @@ fn bad_row(alloc: Global, rows: &[Value], number: u16) -> Told {
         Value::Table(table) => table_slip(alloc, table)?,
         _ => no_table(alloc, row)?,
     };
-    told_at(
+    say_at(
         alloc,
         row_named("order", usize::from(number), row, "kind"),
         found,
@@ -118,7 +118,7 @@ fn is_same(a: &Value, b: &Value) -> bool {
     text_in(a, "kind") == text_in(b, "kind") && version_in(a) == version_in(b)
 }
 
-fn two_rows(alloc: Global, rows: &[Value], number: u16) -> Told {
+fn two_rows(alloc: Global, rows: &[Value], number: u16) -> HintText {
     let Some(row) = row_at(rows, number) else {
         return Ok(None);
     };
@@ -128,13 +128,13 @@ fn two_rows(alloc: Global, rows: &[Value], number: u16) -> Told {
     let place = row_named("order", usize::from(number), row, "kind");
     let earlier = earlier.saturating_add(1);
     let version = version_in(row).unwrap_or(0);
-    told(
+    say(
         alloc,
         format_args!("{place}: order {earlier} has the same kind and version ({version}) already"),
     )
 }
 
-fn no_rows(alloc: Global, table: &Table) -> Told {
+fn no_rows(alloc: Global, table: &Table) -> HintText {
     match member(table, "order") {
         Some(value) => must_be(
             alloc,
@@ -146,15 +146,15 @@ fn no_rows(alloc: Global, table: &Table) -> Told {
     }
 }
 
-fn many_rows(alloc: Global, rows: &[Value]) -> Told {
+fn many_rows(alloc: Global, rows: &[Value]) -> HintText {
     let count = rows.len();
-    told(
+    say(
         alloc,
         format_args!("order has {count} rows, and may have {MAX_ROWS}"),
     )
 }
 
-fn rows_hint(alloc: Global, number: u16, table: &Table) -> Told {
+fn rows_hint(alloc: Global, number: u16, table: &Table) -> HintText {
     let rows = rows_of(member(table, "order"));
     if number == 0 {
         return no_rows(alloc, table);
@@ -165,11 +165,11 @@ fn rows_hint(alloc: Global, number: u16, table: &Table) -> Told {
     bad_row(alloc, rows, number)
 }
 
-fn table_hint(alloc: Global, fault: &TableFault, table: &Table) -> Told {
+fn table_hint(alloc: Global, fault: &TableFault, table: &Table) -> HintText {
     match fault {
         TableFault::UnknownKey => {
             let found = unknown_key(alloc, table, &["order"], "an order table")?;
-            told_at(alloc, "top", found)
+            say_at(alloc, "top", found)
         }
         TableFault::BadRow { row } => rows_hint(alloc, *row, table),
         TableFault::TwoRows { row } => { two_rows(alloc, rows_of(member(table, "order")), *row) }
@@ -178,7 +178,7 @@ fn table_hint(alloc: Global, fault: &TableFault, table: &Table) -> Told {
 }
 
 /// What the refusal of an order table is about.
-pub fn orders_hint(alloc: Global, fault: &TableFault, text: &[u8]) -> Told {
+pub fn orders_hint(alloc: Global, fault: &TableFault, text: &[u8]) -> HintText {
     if *fault == TableFault::NotToml {
         return why_no_toml(alloc, text);
     }

@@ -1,6 +1,6 @@
 //! Which segment of a script leaves its account or its TAN process open, and what to write.
 use crate::labels::{alphabet_name, name_text};
-use fints_cli_hints_words::places::{Told, told, written};
+use fints_cli_hints_words::places::{HintText, say, written};
 use fints_cli_hints_words::quoting::Bare;
 use fints_rules::{AccountForm, OrderTable};
 use fints_script::{PlanFault, Script, Step};
@@ -30,39 +30,39 @@ fn items_of(template: &Template) -> &[TemplateItem] {
 
 /// What leaves an element open.
 #[derive(Clone, Copy)]
-enum Open<'a> {
+enum OpenItem<'a> {
     Dialog,
     Field(&'a NamedField),
     Unknown,
 }
 
 // The first item that is no literal.
-fn open_of<'a>(fields: &'a [NamedField], items: &[TemplateItem]) -> Open<'a> {
+fn open_of<'a>(fields: &'a [NamedField], items: &[TemplateItem]) -> OpenItem<'a> {
     for item in items {
         match item {
             TemplateItem::Literal(_) => {}
-            TemplateItem::Dialog => return Open::Dialog,
+            TemplateItem::Dialog => return OpenItem::Dialog,
             TemplateItem::Field(place) => {
                 return match fields.get(*place) {
-                    Some(field) => Open::Field(field),
-                    None => Open::Unknown,
+                    Some(field) => OpenItem::Field(field),
+                    None => OpenItem::Unknown,
                 };
             }
         }
     }
-    Open::Unknown
+    OpenItem::Unknown
 }
 
-impl Display for Open<'_> {
+impl Display for OpenItem<'_> {
     fn fmt<W: Write>(&self, f: &mut Formatter<W>) -> fmt::Result {
         match *self {
-            Open::Dialog => f.write_str("$dialog, the id of the dialogue"),
-            Open::Field(field) => {
+            OpenItem::Dialog => f.write_str("$dialog, the id of the dialogue"),
+            OpenItem::Field(field) => {
                 let name = name_text(&field.name);
                 let class = class_name(&field.class);
                 write!(f, "${name}, a field of class {class}")
             }
-            Open::Unknown => f.write_str("a field"),
+            OpenItem::Unknown => f.write_str("a field"),
         }
     }
 }
@@ -127,7 +127,7 @@ fn template_text(
     orders: &OrderTable,
     opened: &Opened,
     step: &Step,
-) -> Told {
+) -> HintText {
     let place = opened
         .segment
         .saturating_sub(step.signers().len().saturating_add(2));
@@ -139,9 +139,9 @@ fn template_text(
     let Second { what, advice } = second_of(opened.account, form);
     let entry = place.saturating_add(1);
     let place = place_text(alloc, step, opened.step, entry, template)?;
-    told(
+    say(
         alloc,
-        format_args!("{place}: element 2 {what}, and in it stands {open}; write {advice}"),
+        format_args!("{place}: element 2 {what}, and it has {open}; write {advice}"),
     )
 }
 
@@ -160,7 +160,7 @@ fn opened_of(fault: &PlanFault) -> Opened {
     }
 }
 
-fn step_text(alloc: Global, script: &Script, orders: &OrderTable, opened: &Opened) -> Told {
+fn step_text(alloc: Global, script: &Script, orders: &OrderTable, opened: &Opened) -> HintText {
     match script.steps().get(opened.step.saturating_sub(1)) {
         Some(step) => template_text(alloc, script, orders, opened, step),
         None => Ok(None),
@@ -168,7 +168,7 @@ fn step_text(alloc: Global, script: &Script, orders: &OrderTable, opened: &Opene
 }
 
 /// Which segment leaves something open, and what to write in its element 2.
-pub fn plan_hint(alloc: Global, fault: &PlanFault, orders: &[u8], script: &[u8]) -> Told {
+pub fn plan_hint(alloc: Global, fault: &PlanFault, orders: &[u8], script: &[u8]) -> HintText {
     let Ok(script) = Script::read(alloc, script) else {
         return Ok(None);
     };

@@ -1,6 +1,6 @@
 //! Why a run has no message of a number.
 use crate::labels::name_text;
-use fints_cli_hints_words::places::{Told, told};
+use fints_cli_hints_words::places::{HintText, say};
 use fints_script::{Script, Step, Target};
 use fints_script_cases::{Answer, Case};
 use std::alloc::Global;
@@ -80,17 +80,17 @@ fn last_of(steps: &[Step], answers: &[Answer]) -> (Last, End) {
     (last, End::NoAnswer)
 }
 
-fn end_text(alloc: Global, last: &Last, step: &Step, end: End) -> Told {
+fn end_text(alloc: Global, last: &Last, step: &Step, end: End) -> HintText {
     let number = last.number;
     let name = step.name();
     let name = name_text(&name);
-    told(
+    say(
         alloc,
         format_args!("the last message of the run is number {number}, of the step {name}; {end}"),
     )
 }
 
-fn run_text(alloc: Global, script: &Script, case: &Case) -> Told {
+fn run_text(alloc: Global, script: &Script, case: &Case) -> HintText {
     let (last, end) = last_of(script.steps(), case.answers.as_slice());
     match script.steps().get(last.place) {
         Some(step) => end_text(alloc, &last, step, end),
@@ -99,9 +99,9 @@ fn run_text(alloc: Global, script: &Script, case: &Case) -> Told {
 }
 
 /// Which message of a case's run is the last, and why.
-pub fn run_hint(alloc: Global, number: u32, script: &[u8], text: &[u8]) -> Told {
+pub fn run_hint(alloc: Global, number: u32, script: &[u8], text: &[u8]) -> HintText {
     if number == 0 {
-        return told(alloc, "the first message of a run is number 1");
+        return say(alloc, "the first message of a run is number 1");
     }
     let Ok(script) = Script::read(alloc, script) else {
         return Ok(None);

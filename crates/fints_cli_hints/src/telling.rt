@@ -10,7 +10,7 @@ use fints_cli_hints_dialogues::{dialogue_hint, draft_hint, part_hint};
 use fints_cli_hints_scripts::script_hint;
 use fints_cli_hints_segments::params_hint;
 use fints_cli_hints_words::inputs::Inputs;
-use fints_cli_hints_words::places::{Told, told};
+use fints_cli_hints_words::places::{HintText, say};
 use fints_cli_texts::Fault;
 use fints_script_cases::CaseFault;
 use fints_syntax::Memory;
@@ -22,9 +22,9 @@ const BEFORE_ANSWER: &str =
 const NO_CODE: &str = "this is no answer of the bank: it has no code in an HIRMG or HIRMS";
 
 // Why the bytes of a message are none, as it was said where they were read.
-fn unread_hint(alloc: Global, unread: Option<&str>) -> Told {
+fn unread_hint(alloc: Global, unread: Option<&str>) -> HintText {
     match unread {
-        Some(text) => told(alloc, text),
+        Some(text) => say(alloc, text),
         None => Ok(None),
     }
 }
@@ -45,9 +45,9 @@ pub fn hint(alloc: Global, fault: &Fault, inputs: &Inputs<'_>) -> Result<Option<
         Fault::NoFinding { number } => finding_hint(alloc, *number),
         Fault::Certificate { line } => cert_hint(alloc, *line, inputs.certificate),
         Fault::Before { .. } | Fault::Message(_) => unread_hint(alloc, inputs.unread),
-        Fault::BeforeAnswer => told(alloc, BEFORE_ANSWER),
+        Fault::BeforeAnswer => say(alloc, BEFORE_ANSWER),
         Fault::Answer(fault) => params_hint(alloc, fault, inputs.answer),
-        Fault::NoCode => told(alloc, NO_CODE),
+        Fault::NoCode => say(alloc, NO_CODE),
         Fault::Dialogue(fault) => dialogue_hint(alloc, fault, inputs.dialogue, inputs.unread),
         Fault::NotDraftable { message, segment } => {
             draft_hint(alloc, *message, *segment, inputs.dialogue)

@@ -16,4 +16,4 @@ pub use captured::{Captured, Said, said_in};
 pub use lists::{Further, MOST_SHOWN, Numbers};
 pub use notes::Noted;
 pub use noting::{Basis, add_captured_notes};
-pub use sent::{Sent, SentStep};
+pub use sent::{Outgoing, SentStep};

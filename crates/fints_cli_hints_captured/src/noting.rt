@@ -4,7 +4,7 @@ use crate::formats::{Format, bytes_of, format_element, format_in};
 use crate::lists::{Ascii, Numbers};
 use crate::notes::{Noted, Notes, Which};
 use crate::procedures::Procedure;
-use crate::sent::{Segment, Sent};
+use crate::sent::{Outgoing, Segment};
 use crate::spans::Span;
 use fints_cli_hints_words::places::written;
 use fints_rules::kinds::is_plain_order;
@@ -73,7 +73,7 @@ fn add_function(
 }
 
 // The first kind of the body that demands a TAN.
-fn demanding_kind(permissions: &Permissions<'_>, sent: &Sent<'_>) -> Option<Kind> {
+fn demanding_kind(permissions: &Permissions<'_>, sent: &Outgoing<'_>) -> Option<Kind> {
     for place in 0..sent.body_len() {
         let kind = sent.kind(place)?;
         if permissions.is_demanding(kind) {
@@ -85,7 +85,7 @@ fn demanding_kind(permissions: &Permissions<'_>, sent: &Sent<'_>) -> Option<Kind
 
 // Whether HIPINS lists an order of the body that doesn't go in one step always. HKTAN is none: HIPINS may
 // list it, and it is in initialisations too.
-fn has_order(permissions: &Permissions<'_>, sent: &Sent<'_>) -> bool {
+fn has_order(permissions: &Permissions<'_>, sent: &Outgoing<'_>) -> bool {
     (0..sent.body_len()).any(|place| match sent.kind(place) {
         Some(kind) => {
             let is_free = kind.is(b"HKTAB") || kind.is(b"HKPAE") || !is_plain_order(kind);
@@ -104,7 +104,11 @@ fn is_disallowed(basis: &Basis<'_>) -> bool {
 
 // That an order goes in one step, where it demands a TAN and the bank takes none so, or where the bank has
 // allowed the user TAN procedures only.
-fn add_one_step(notes: &mut Notes<'_>, basis: &Basis<'_>, sent: &Sent<'_>) -> Result<(), Memory> {
+fn add_one_step(
+    notes: &mut Notes<'_>,
+    basis: &Basis<'_>,
+    sent: &Outgoing<'_>,
+) -> Result<(), Memory> {
     let demanding = demanding_kind(basis.permissions, sent);
     if basis.captured.two_steps
         && let Some(kind) = demanding
@@ -139,7 +143,7 @@ fn version_of(captured: &Captured, function: u32) -> u16 {
 fn add_initialisation(
     notes: &mut Notes<'_>,
     captured: &Captured,
-    sent: &Sent<'_>,
+    sent: &Outgoing<'_>,
     function: u32,
 ) -> Result<(), Memory> {
     let is_initialisation = sent.has(b"HKIDN") && sent.has(b"HKVVB") && !sent.has(b"HKSYN");
@@ -163,7 +167,7 @@ fn add_initialisation(
 // ---- HKTAN
 
 // The kind of the first segment of the body that is no HKTAN.
-fn other_kind(sent: &Sent<'_>) -> Option<Kind> {
+fn other_kind(sent: &Outgoing<'_>) -> Option<Kind> {
     for place in 0..sent.body_len() {
         let kind = sent.kind(place)?;
         if !kind.is(b"HKTAN") {
@@ -179,12 +183,16 @@ fn kind_in(order: &Segment<'_>) -> Option<Kind> {
 }
 
 // Whether an initialisation may name the kind in HKTAN: clients open the dialogue of such an order so.
-fn may_be_initialised(sent: &Sent<'_>, named: Kind) -> bool {
+fn may_be_initialised(sent: &Outgoing<'_>, named: Kind) -> bool {
     sent.has(b"HKIDN") && (named.is(b"HKTAB") || named.is(b"HKPAE"))
 }
 
 // That element 3 names an order that the message doesn't hold.
-fn add_named(notes: &mut Notes<'_>, sent: &Sent<'_>, order: &Segment<'_>) -> Result<(), Memory> {
+fn add_named(
+    notes: &mut Notes<'_>,
+    sent: &Outgoing<'_>,
+    order: &Segment<'_>,
+) -> Result<(), Memory> {
     let (Some(named), Some(held)) = (kind_in(order), other_kind(sent)) else {
         return Ok(());
     };
@@ -206,7 +214,7 @@ fn add_named(notes: &mut Notes<'_>, sent: &Sent<'_>, order: &Segment<'_>) -> Res
 fn add_medium(
     notes: &mut Notes<'_>,
     captured: &Captured,
-    sent: &Sent<'_>,
+    sent: &Outgoing<'_>,
     order: &Segment<'_>,
     function: u32,
 ) -> Result<(), Memory> {
@@ -229,7 +237,7 @@ fn add_medium(
 fn add_tan_order(
     notes: &mut Notes<'_>,
     captured: &Captured,
-    sent: &Sent<'_>,
+    sent: &Outgoing<'_>,
     order: &Segment<'_>,
     function: u32,
 ) -> Result<(), Memory> {
@@ -356,7 +364,7 @@ fn add_days(
 // The order at a place of the body.
 fn order_at<'s>(
     alloc: Global,
-    sent: &Sent<'s>,
+    sent: &Outgoing<'s>,
     place: usize,
 ) -> Result<Option<Segment<'s>>, Memory> {
     match sent.kind(place) {
@@ -365,7 +373,11 @@ fn order_at<'s>(
     }
 }
 
-fn add_orders(notes: &mut Notes<'_>, captured: &Captured, sent: &Sent<'_>) -> Result<(), Memory> {
+fn add_orders(
+    notes: &mut Notes<'_>,
+    captured: &Captured,
+    sent: &Outgoing<'_>,
+) -> Result<(), Memory> {
     let Some(opener) = sent.opener(notes.alloc, 0)? else {
         return Ok(());
     };
@@ -452,7 +464,7 @@ pub struct Basis<'b> {
 fn add_by_function(
     notes: &mut Notes<'_>,
     basis: &Basis<'_>,
-    sent: &Sent<'_>,
+    sent: &Outgoing<'_>,
     function: u32,
 ) -> Result<(), Memory> {
     let captured = basis.captured;
@@ -470,7 +482,7 @@ fn add_by_function(
     }
 }
 
-fn add_all(notes: &mut Notes<'_>, basis: &Basis<'_>, sent: &Sent<'_>) -> Result<(), Memory> {
+fn add_all(notes: &mut Notes<'_>, basis: &Basis<'_>, sent: &Outgoing<'_>) -> Result<(), Memory> {
     let Some(function) = sent.function(notes.alloc)? else {
         return Ok(());
     };
@@ -492,7 +504,7 @@ pub fn add_captured_notes(
     called: &str,
     noted: &mut Noted,
     basis: &Basis<'_>,
-    sent: &Sent<'_>,
+    sent: &Outgoing<'_>,
 ) -> Result<(), Memory> {
     let mut notes = Notes::new(alloc, called, *noted);
     add_all(&mut notes, basis, sent)?;

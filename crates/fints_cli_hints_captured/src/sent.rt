@@ -146,7 +146,7 @@ impl<'s> SentStep<'s> {
 
 /// What is sent: a message, or what a step of a script sends.
 #[derive(Clone, Copy)]
-pub enum Sent<'s> {
+pub enum Outgoing<'s> {
     Message(&'s Message<'s>),
     Step(SentStep<'s>),
 }
@@ -164,68 +164,68 @@ fn owned_at<'s>(
 }
 
 // Places count from 0.
-impl<'s> Sent<'s> {
+impl<'s> Outgoing<'s> {
     /// How many segments the body has.
     pub fn body_len(&self) -> usize {
         match self {
-            Sent::Message(message) => message.body().len(),
-            Sent::Step(step) => step.templates.len(),
+            Outgoing::Message(message) => message.body().len(),
+            Outgoing::Step(step) => step.templates.len(),
         }
     }
 
     /// How many signatures there are.
     pub fn signatures(&self) -> usize {
         match self {
-            Sent::Message(message) => message.openers().len(),
-            Sent::Step(step) => step.signed_by.len(),
+            Outgoing::Message(message) => message.openers().len(),
+            Outgoing::Step(step) => step.signed_by.len(),
         }
     }
 
     /// How many HNSHA there are.
     pub fn ends(&self) -> usize {
         match self {
-            Sent::Message(message) => message.ends().len(),
-            Sent::Step(step) => step.signed_by.len(),
+            Outgoing::Message(message) => message.ends().len(),
+            Outgoing::Step(step) => step.signed_by.len(),
         }
     }
 
     /// The kind of the segment of the body at a place.
     pub fn kind(&self, place: usize) -> Option<Kind> {
         match self {
-            Sent::Message(message) => Some(message.body().get(place)?.id()),
-            Sent::Step(step) => Some(step.templates.get(place)?.kind),
+            Outgoing::Message(message) => Some(message.body().get(place)?.id()),
+            Outgoing::Step(step) => Some(step.templates.get(place)?.kind),
         }
     }
 
     /// The segment of the body at a place.
     pub fn segment(&self, alloc: Global, place: usize) -> Result<Option<Segment<'s>>, Memory> {
         match self {
-            Sent::Message(message) => owned_at(alloc, message.body(), place),
-            Sent::Step(step) => Ok(step.body(place)),
+            Outgoing::Message(message) => owned_at(alloc, message.body(), place),
+            Outgoing::Step(step) => Ok(step.body(place)),
         }
     }
 
     /// The HNSHK at a place.
     pub fn opener(&self, alloc: Global, place: usize) -> Result<Option<Segment<'s>>, Memory> {
         match self {
-            Sent::Message(message) => owned_at(alloc, message.openers(), place),
-            Sent::Step(step) => Ok(step.opener(place)),
+            Outgoing::Message(message) => owned_at(alloc, message.openers(), place),
+            Outgoing::Step(step) => Ok(step.opener(place)),
         }
     }
 
     /// The HNSHA at a place.
     pub fn end(&self, alloc: Global, place: usize) -> Result<Option<Segment<'s>>, Memory> {
         match self {
-            Sent::Message(message) => owned_at(alloc, message.ends(), place),
-            Sent::Step(step) => Ok(step.end(place)),
+            Outgoing::Message(message) => owned_at(alloc, message.ends(), place),
+            Outgoing::Step(step) => Ok(step.end(place)),
         }
     }
 
     /// The place of the first segment of a kind in the body.
     pub fn place_of(&self, id: &[u8]) -> Option<usize> {
         match self {
-            Sent::Message(message) => message.body().iter().position(|it| it.id().is(id)),
-            Sent::Step(step) => step.templates.iter().position(|it| it.kind.is(id)),
+            Outgoing::Message(message) => message.body().iter().position(|it| it.id().is(id)),
+            Outgoing::Step(step) => step.templates.iter().position(|it| it.kind.is(id)),
         }
     }
 

@@ -1,7 +1,9 @@
 //! The notes on the messages of a recording, by what its parameters and the bank's answers say.
 use crate::parties::{Party, party_in};
 use crate::sources::Capture;
-use fints_cli_hints_captured::{Basis, Captured, Noted, Said, Sent, add_captured_notes, said_in};
+use fints_cli_hints_captured::{
+    Basis, Captured, Noted, Outgoing, Said, add_captured_notes, said_in,
+};
 use fints_cli_hints_words::places::written;
 use fints_rules::{Message, Permissions};
 use fints_rules_dialogues::{Answer, Exchange};
@@ -126,7 +128,7 @@ impl CapturedNotes {
             permissions,
         };
         let mut noted = self.noted;
-        let sent = Sent::Message(message);
+        let sent = Outgoing::Message(message);
         add_captured_notes(text, alloc, called.as_str(), &mut noted, &basis, &sent)?;
         self.noted = noted;
         Ok(())

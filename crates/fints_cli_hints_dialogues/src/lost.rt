@@ -1,5 +1,5 @@
 //! Why a message that begins in a file is lost. Nothing is shown of what is there, since it may be a PIN or a TAN.
-use fints_cli_hints_words::places::{Told, line_at, told};
+use fints_cli_hints_words::places::{HintText, line_at, say};
 use std::alloc::Global;
 
 // What a message begins with; its size follows.
@@ -47,32 +47,32 @@ fn is_wrapped(bytes: &[u8], size: u64) -> bool {
 }
 
 // Why no message comes of an HNHBK.
-fn plain_hint(alloc: Global, line: usize, bytes: &[u8]) -> Told {
+fn plain_hint(alloc: Global, line: usize, bytes: &[u8]) -> HintText {
     let (own, next) = match next_place(bytes, FRONT) {
         Some(len) => (bytes.get(..len).unwrap_or(&[]), "the next HNHBK"),
         None => (bytes, "the end of the file"),
     };
     let size = size_of(bytes);
     match end_of(own) {
-        Some(len) if len as u64 == size => told(
+        Some(len) if len as u64 == size => say(
             alloc,
             format_args!(
                 "line {line}: its HNHBS has another version than 1, or its numbers are no numbers"
             ),
         ),
-        Some(len) if is_wrapped(own.get(..len).unwrap_or(&[]), size) => told(
+        Some(len) if is_wrapped(own.get(..len).unwrap_or(&[]), size) => say(
             alloc,
             format_args!(
                 "line {line}: HNHBK says {size} bytes, and its HNHBS ends after {len}, as many more as there are line breaks in them: the log was wrapped; join its lines"
             ),
         ),
-        Some(len) => told(
+        Some(len) => say(
             alloc,
             format_args!(
                 "line {line}: HNHBK says {size} bytes, and its HNHBS ends after {len}: whoever wrote the file changed it (an HNVSD was opened, or a PIN was masked by another number of characters)"
             ),
         ),
-        None => told(
+        None => say(
             alloc,
             format_args!(
                 "line {line}: HNHBK says {size} bytes, and no HNHBS ends it before {next}: it was cut off"
@@ -82,13 +82,13 @@ fn plain_hint(alloc: Global, line: usize, bytes: &[u8]) -> Told {
 }
 
 /// Why the message that begins at an offset of a file is lost.
-pub fn lost_hint(alloc: Global, file: &[u8], offset: usize) -> Told {
+pub fn lost_hint(alloc: Global, file: &[u8], offset: usize) -> HintText {
     let line = line_at(file, offset);
     let bytes = file.get(offset..).unwrap_or(&[]);
     if bytes.starts_with(FRONT) {
         return plain_hint(alloc, line, bytes);
     }
-    told(
+    say(
         alloc,
         format_args!(
             "line {line}: the base64 begins as a message does, and no whole one comes of it: it was cut off or changed"

@@ -57,7 +57,7 @@ impl Display for Note<'_> {
                 )
             }
             Note::NotSealed => f.write_str(
-                "the message is signed and not sealed: put its segments into an HNVSD, so that a PIN or a TAN doesn't stand in it as it is",
+                "the message is signed and not sealed: put its segments into an HNVSD, so that no PIN or TAN is in it in clear",
             ),
             Note::Ended => f.write_str(
                 "an answer before has 9800, by which the bank ended the dialogue: begin another one",

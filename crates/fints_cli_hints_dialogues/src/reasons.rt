@@ -3,7 +3,7 @@ use crate::captured::CapturedNotes;
 use crate::notes::Notes;
 use crate::sources::{Indexes, Source, capture_of};
 use fints_cli_hints_segments::UnreadHint;
-use fints_cli_hints_words::places::{Told, written};
+use fints_cli_hints_words::places::{HintText, written};
 use fints_rules::{AccountForm, Broken, Message, Permissions};
 use fints_rules_dialogues::{Exchange, Observer, ToldIn};
 use fints_rules_messages::{Unread, UnreadObserver};
@@ -56,7 +56,7 @@ impl<'c> AuditReasons<'c> {
     }
 
     /// The lines. An error where memory ran out while they were made.
-    pub fn into_text(self) -> Told {
+    pub fn into_text(self) -> HintText {
         let AuditReasons {
             reasons: mut text,
             notes,
@@ -121,7 +121,7 @@ impl<'c> AuditReasons<'c> {
         let line = written(
             self.alloc,
             format_args!(
-                "note: message {place}: no answer tells the user's accounts (HIUPD), so P9 and P8 don't ask for them: hand over a capture by --params\n"
+                "note: message {place}: no answer has the user's accounts (HIUPD), so P9 and P8 don't ask for them: hand over a capture by --params\n"
             ),
         )?;
         self.notes.text_mut().push_str(line.as_str())?;

@@ -2,9 +2,9 @@
 use crate::lost::lost_hint;
 use crate::untold::parameters_hint;
 use fints_cli_hints_segments::params_hint;
-use fints_cli_hints_words::places::{Told, line_at, told, told_at};
+use fints_cli_hints_words::places::{HintText, line_at, say, say_at};
 use fints_params::{ParamFault, feedback_codes};
-use fints_rules_dialogues::{DialogueFault, Log, Recording, Sent, read_log};
+use fints_rules_dialogues::{DialogueFault, Log, RecordedMessage, Recording, read_log};
 use fints_syntax::Memory;
 use std::alloc::Global;
 use std::fmt;
@@ -54,7 +54,7 @@ impl Display for Turn {
 }
 
 // Whether a message has a code, as answers do.
-fn has_code(alloc: Global, sent: &Sent<'_>) -> Result<bool, Memory> {
+fn has_code(alloc: Global, sent: &RecordedMessage<'_>) -> Result<bool, Memory> {
     match feedback_codes(alloc, sent.bytes) {
         Ok(codes) => Ok(!codes.is_empty()),
         Err(ParamFault::Memory) => Err(Memory),
@@ -63,7 +63,7 @@ fn has_code(alloc: Global, sent: &Sent<'_>) -> Result<bool, Memory> {
 }
 
 // What is due after these messages.
-fn turn_after(alloc: Global, messages: &[Sent<'_>]) -> Result<Turn, Memory> {
+fn turn_after(alloc: Global, messages: &[RecordedMessage<'_>]) -> Result<Turn, Memory> {
     let mut turn = FIRST;
     for sent in messages {
         let is_answer = turn.answer && has_code(alloc, sent)?;
@@ -85,7 +85,12 @@ fn log_of(alloc: Global, file: &[u8]) -> Result<Option<Log<'_>>, Memory> {
 
 // Why a message of the client ceases at an offset to be one, as its reader says it. It is the last message
 // that begins there or before, or where that is an answer the message before it, which ceases at its end.
-fn client_hint(alloc: Global, messages: &[Sent<'_>], offset: usize, unread: &str) -> Told {
+fn client_hint(
+    alloc: Global,
+    messages: &[RecordedMessage<'_>],
+    offset: usize,
+    unread: &str,
+) -> HintText {
     let last = messages
         .partition_point(|it| it.start <= offset)
         .saturating_sub(1);
@@ -96,10 +101,10 @@ fn client_hint(alloc: Global, messages: &[Sent<'_>], offset: usize, unread: &str
     } else {
         turn.number
     };
-    told(alloc, format_args!("message {number}: {unread}"))
+    say(alloc, format_args!("message {number}: {unread}"))
 }
 
-fn no_message_hint(alloc: Global, file: &[u8], offset: usize, unread: Option<&str>) -> Told {
+fn no_message_hint(alloc: Global, file: &[u8], offset: usize, unread: Option<&str>) -> HintText {
     let Some(log) = log_of(alloc, file)? else {
         return lost_hint(alloc, file, offset);
     };
@@ -115,9 +120,9 @@ fn no_message_hint(alloc: Global, file: &[u8], offset: usize, unread: Option<&st
 // What is due where a message begins, and the message.
 fn sent_at<'a>(
     alloc: Global,
-    messages: &[Sent<'a>],
+    messages: &[RecordedMessage<'a>],
     start: usize,
-) -> Result<Option<(Turn, Sent<'a>)>, Memory> {
+) -> Result<Option<(Turn, RecordedMessage<'a>)>, Memory> {
     let Some(place) = messages.iter().position(|it| it.start == start) else {
         return Ok(None);
     };
@@ -128,7 +133,7 @@ fn sent_at<'a>(
     }
 }
 
-fn turn_hint(alloc: Global, file: &[u8], offset: usize) -> Told {
+fn turn_hint(alloc: Global, file: &[u8], offset: usize) -> HintText {
     let Some(log) = log_of(alloc, file)? else {
         return Ok(None);
     };
@@ -141,15 +146,15 @@ fn turn_hint(alloc: Global, file: &[u8], offset: usize) -> Told {
     } else {
         "an answer of the bank, since it has an HIRMG"
     };
-    told(
+    say(
         alloc,
         format_args!(
-            "{turn} is due, and there stands {there}: the client's messages and the bank's answers stand in turn, the client's first"
+            "{turn} is due, and this is {there}: the client's messages and the bank's answers come in turn, the client's first"
         ),
     )
 }
 
-fn answer_hint(alloc: Global, file: &[u8], start: usize, fault: &ParamFault) -> Told {
+fn answer_hint(alloc: Global, file: &[u8], start: usize, fault: &ParamFault) -> HintText {
     let Some(log) = log_of(alloc, file)? else {
         return Ok(None);
     };
@@ -158,9 +163,9 @@ fn answer_hint(alloc: Global, file: &[u8], start: usize, fault: &ParamFault) -> 
         return Ok(None);
     };
     let line = line_at(file, start);
-    told_at(
+    say_at(
         alloc,
-        format_args!("{turn}, of which line 1 is line {line} of the file: "),
+        format_args!("{turn}, whose line 1 is line {line} of the file: "),
         params_hint(alloc, fault, sent.bytes)?,
     )
 }
@@ -175,10 +180,10 @@ pub fn dialogue_hint(
     fault: &DialogueFault,
     file: &[u8],
     unread: Option<&str>,
-) -> Told {
+) -> HintText {
     match fault {
         DialogueFault::Memory => Ok(None),
-        DialogueFault::NoMessage => told(alloc, NO_MESSAGE),
+        DialogueFault::NoMessage => say(alloc, NO_MESSAGE),
         DialogueFault::NotAMessage { offset } => no_message_hint(alloc, file, *offset, unread),
         DialogueFault::NotInTurn { offset } => turn_hint(alloc, file, *offset),
         DialogueFault::Answer { start, fault } => answer_hint(alloc, file, *start, fault),

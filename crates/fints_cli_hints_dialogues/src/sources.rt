@@ -2,7 +2,7 @@
 use fints_cli_hints_reasons::bank::{AccountIndex, Bank, BankIndex};
 use fints_cli_hints_reasons::{Judged, add_reasons};
 use fints_rules::{Broken, Message, Permissions};
-use fints_rules_dialogues::{Sent, ToldIn};
+use fints_rules_dialogues::{RecordedMessage, ToldIn};
 use fints_syntax::Memory;
 use std::alloc::Global;
 use std::collections::BTreeMap;
@@ -43,7 +43,7 @@ impl Source<'_> {
     }
 }
 
-fn place_of(sent: Option<Sent<'_>>) -> usize {
+fn place_of(sent: Option<RecordedMessage<'_>>) -> usize {
     match sent {
         Some(sent) => sent.start,
         None => NOWHERE,

@@ -1,5 +1,5 @@
 //! What the refusal of a draft is about: what no script sends as it was recorded.
-use fints_cli_hints_words::places::{Told, told};
+use fints_cli_hints_words::places::{HintText, say};
 use fints_params::sealed_data;
 use fints_rules_dialogues::{Exchange, read_dialogue, read_log};
 use fints_syntax::{Kind, Memory, OwnedSegment, SegmentView, parse_all};
@@ -12,13 +12,13 @@ const WHOLE_MESSAGE: &str =
     "a script has at most 1,000 steps, and a step 100 segments, 10,000 items in each list of elements, and a weight of 1,000,000";
 
 const FRAME: &str =
-    "a script sends protocol version 300, in message N of a run the number N, the dialogue id 0 in message 1 and one of 1 to 30 characters behind it, and nothing more";
+    "a script sends protocol version 300, in message N of a run the number N, the dialogue id 0 in message 1 and one of 1 to 30 characters after it, and nothing more";
 
 const SIGNATURE: &str =
     "a script sends HNSHK 4 and HNSHA 2 without a reference number, and has at most 20 signers, one for each two that differ";
 
 const SECRET: &str =
-    "a PIN or a TAN is a field of 1 to 99 characters, U+0020 to U+007E and U+00A0 to U+00FF, and a script has at most 100 of them; they stand in the last element, 4 of HNSHA and 2 of HKPAE, and a + in them is written ?+; element 3 of HNSHA is empty, and element 2 letters and digits";
+    "a PIN or a TAN is a field of 1 to 99 characters, U+0020 to U+007E and U+00A0 to U+00FF, and a script has at most 100 of them; they are in the last element, 4 of HNSHA and 2 of HKPAE, and a + in them is written ?+; element 3 of HNSHA is empty, and element 2 letters and digits";
 
 const TEXT: &str =
     "a script sends no reference number, no escape that isn't needed, and no character but U+0020 to U+007E and U+00A0 to U+00FF";
@@ -63,7 +63,7 @@ fn kind_of(alloc: Global, bytes: &[u8], number: usize) -> Result<Option<Kind>, M
 }
 
 // What a script sends at a segment of a message of the client.
-fn segment_hint(alloc: Global, message: usize, segment: usize, file: &[u8]) -> Told {
+fn segment_hint(alloc: Global, message: usize, segment: usize, file: &[u8]) -> HintText {
     let Ok(log) = read_log(alloc, file) else {
         return Ok(None);
     };
@@ -75,7 +75,7 @@ fn segment_hint(alloc: Global, message: usize, segment: usize, file: &[u8]) -> T
     };
     if segment == 1 && message > 1 && exchange.begins {
         let number = dialogues_in(exchanges.get(..message).unwrap_or(&[]));
-        return told(
+        return say(
             alloc,
             format_args!("message {message} begins dialogue {number}: draft it by --part {number}"),
         );
@@ -84,7 +84,7 @@ fn segment_hint(alloc: Global, message: usize, segment: usize, file: &[u8]) -> T
         return Ok(None);
     };
     let why = sent_as(kind);
-    told(
+    say(
         alloc,
         format_args!("message {message}, segment {segment} ({kind}): {why}"),
     )
@@ -96,7 +96,7 @@ fn dialogues_in(exchanges: &[Exchange<'_>]) -> usize {
 }
 
 /// How many dialogues a recording has.
-pub fn part_hint(alloc: Global, file: &[u8]) -> Told {
+pub fn part_hint(alloc: Global, file: &[u8]) -> HintText {
     let Ok(log) = read_log(alloc, file) else {
         return Ok(None);
     };
@@ -104,8 +104,8 @@ pub fn part_hint(alloc: Global, file: &[u8]) -> Told {
         return Ok(None);
     };
     match dialogues_in(exchanges.as_slice()) {
-        1 => told(alloc, "the recording has one dialogue"),
-        count => told(
+        1 => say(alloc, "the recording has one dialogue"),
+        count => say(
             alloc,
             format_args!("the recording has {count} dialogues, which `audit` numbers"),
         ),
@@ -114,10 +114,10 @@ pub fn part_hint(alloc: Global, file: &[u8]) -> Told {
 
 /// What the refusal of a draft is about. The client's messages count from 1, and a segment has the number in
 /// its head; 0 is the dialogue, or the message as a whole.
-pub fn draft_hint(alloc: Global, message: usize, segment: usize, file: &[u8]) -> Told {
+pub fn draft_hint(alloc: Global, message: usize, segment: usize, file: &[u8]) -> HintText {
     match (message, segment) {
-        (0, _) => told(alloc, WHOLE_DIALOGUE),
-        (_, 0) => told(alloc, format_args!("message {message}: {WHOLE_MESSAGE}")),
+        (0, _) => say(alloc, WHOLE_DIALOGUE),
+        (_, 0) => say(alloc, format_args!("message {message}: {WHOLE_MESSAGE}")),
         _ => segment_hint(alloc, message, segment, file),
     }
 }

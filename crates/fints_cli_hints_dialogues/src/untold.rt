@@ -1,5 +1,5 @@
 //! Why a recording has no parameters for one of its messages.
-use fints_cli_hints_words::places::{Told, told};
+use fints_cli_hints_words::places::{HintText, say};
 use fints_cli_hints_words::quoting::Sample;
 use fints_rules_dialogues::{Heard, OwnParams, Party, read_dialogue, read_log};
 use fints_syntax::Memory;
@@ -71,7 +71,7 @@ fn first_untold<'h>(
 }
 
 /// Why the parameters are missing by which a message of the recording is to be judged.
-pub fn parameters_hint(alloc: Global, file: &[u8]) -> Told {
+pub fn parameters_hint(alloc: Global, file: &[u8]) -> HintText {
     let Ok(log) = read_log(alloc, file) else {
         return Ok(None);
     };
@@ -82,7 +82,7 @@ pub fn parameters_hint(alloc: Global, file: &[u8]) -> Told {
         return Ok(None);
     };
     match first_untold(alloc, own.heard())? {
-        Some(other) => told(alloc, other),
-        None => told(alloc, format_args!("no answer {ADVICE}")),
+        Some(other) => say(alloc, other),
+        None => say(alloc, format_args!("no answer {ADVICE}")),
     }
 }

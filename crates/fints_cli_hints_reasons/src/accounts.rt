@@ -126,10 +126,10 @@ fn advice(
         _ if first.is_empty() => None,
         true if is_iban_with_blanks(accounts, first) => Some("write the IBAN without blanks"),
         true if accounts.has_number(first) => Some(
-            "it is an account's number, and the order table says that an IBAN stands there (international): write the IBAN, or mend the row of the order table",
+            "it is an account's number, and the order table says that it is an IBAN (international): write the IBAN, or fix the row of the order table",
         ),
         false if accounts.has_iban(first) => Some(
-            "it is an account's IBAN, and the order table says that a number stands there (national): write number, subaccount, country and bank code, or mend the row of the order table",
+            "it is an account's IBAN, and the order table says that it is a number (national): write number, subaccount, country and bank code, or fix the row of the order table",
         ),
         _ => None,
     }
@@ -273,7 +273,7 @@ fn write_unknown<W: Write>(f: &mut Formatter<W>, locked: &Locked<'_>) -> fmt::Re
             }
             write!(
                 f,
-                ", and {account} stands in element {element}: the account of {kind} belongs into element 2{second}"
+                ", and {account} is in element {element}: the account of {kind} belongs in element 2{second}"
             )
         }
         Locked::Unknown {

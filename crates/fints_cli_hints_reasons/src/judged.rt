@@ -7,9 +7,9 @@ use crate::lines::{Where, add_why};
 use crate::segment::{Seen, SegmentWhy};
 use crate::tans::NoTan;
 use crate::whole::{Before, Whole, WholeWhy, is_of_whole};
-use fints_cli_hints_captured::{Basis, Captured, Noted, Sent, add_captured_notes};
+use fints_cli_hints_captured::{Basis, Captured, Noted, Outgoing, add_captured_notes};
 use fints_cli_hints_segments::UnreadHint;
-use fints_cli_hints_words::places::Told;
+use fints_cli_hints_words::places::HintText;
 use fints_cli_texts::JudgeObserver;
 use fints_rules::{Broken, Message, Permissions};
 use fints_rules_messages::{Unread, UnreadObserver};
@@ -58,7 +58,7 @@ fn add_segment(
     let seen = Seen {
         kind,
         version,
-        elements: Elements::Sent(&sent),
+        elements: Elements::Outgoing(&sent),
         count: kinds.count(kind),
         signatures: judged.message.ends().len(),
         demanding: kinds.demanding(),
@@ -204,7 +204,7 @@ fn with_captured_notes(
     };
     let mut text = reasons.unwrap_or_else(|| String::new(alloc));
     let mut noted = Noted::none();
-    let sent = Sent::Message(message);
+    let sent = Outgoing::Message(message);
     add_captured_notes(&mut text, alloc, "", &mut noted, &basis, &sent)?;
     Ok(Some(text))
 }
@@ -231,7 +231,7 @@ pub struct JudgeReasons<'c> {
     alloc: Global,
     wanted: bool,
     capture: &'c [u8],
-    text: Told,
+    text: HintText,
     hint: UnreadHint,
 }
 
@@ -248,7 +248,7 @@ impl<'c> JudgeReasons<'c> {
     }
 
     /// The reasons and the notes, if there is one. An error where memory ran out while they were made.
-    pub fn into_text(self) -> Told {
+    pub fn into_text(self) -> HintText {
         let text = self.text?;
         Ok(text.filter(|text| !text.is_empty()))
     }
@@ -259,7 +259,7 @@ impl<'c> JudgeReasons<'c> {
         permissions: &Permissions<'_>,
         message: &Message<'_>,
         broken: &[Broken],
-    ) -> Told {
+    ) -> HintText {
         let reasons = lines_of(self.alloc, self.capture, permissions, message, broken)?;
         with_captured_notes(self.alloc, reasons, self.capture, permissions, message)
     }
@@ -270,7 +270,7 @@ impl<'c> JudgeReasons<'c> {
         before: &Message<'_>,
         answer: &[u8],
         message: &Message<'_>,
-    ) -> Told {
+    ) -> HintText {
         let reasons = mem::replace(&mut self.text, Ok(None))?;
         with_notes(self.alloc, reasons, before, answer, message)
     }

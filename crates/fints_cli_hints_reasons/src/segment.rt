@@ -119,7 +119,7 @@ impl SegmentWhy<'_> {
         if params_of(self.seen.kind).is_some_and(|id| self.bank.skips(id)) {
             return write!(
                 f,
-                "{params} of the capture can't be read, as show --hints says: mend it, or remove {kind}"
+                "{params} of the capture can't be read, as show --hints says: fix it, or remove {kind}"
             );
         }
         write!(
@@ -135,7 +135,7 @@ impl SegmentWhy<'_> {
         if params_of(self.seen.kind).is_some_and(|id| self.bank.skips_version(id, version)) {
             return write!(
                 f,
-                "the bank takes {kind} in version {versions} ({params}), and {params} {version} of the capture can't be read, as show --hints says: mend it, or send one of these versions"
+                "the bank takes {kind} in version {versions} ({params}), and {params} {version} of the capture can't be read, as show --hints says: fix it, or send one of these versions"
             );
         }
         write!(
@@ -209,7 +209,7 @@ impl SegmentWhy<'_> {
         {
             return write!(
                 f,
-                "the order table has no row for {kind} {version}, which the bank doesn't take (P5): mend that first"
+                "the order table has no row for {kind} {version}, which the bank doesn't take (P5): fix that first"
             );
         }
         write!(
@@ -245,7 +245,7 @@ impl SegmentWhy<'_> {
         let advice = match no_tan {
             NoTan::NoSigner => "add a signer with a TAN",
             NoTan::MayBeEmpty(_) => "keep the TAN's field from being empty (min = 1)",
-            NoTan::Without(_) => "write the TAN into the third entry of its end, behind the PIN",
+            NoTan::Without(_) => "write the TAN into the third entry of its end, after the PIN",
             NoTan::NoneThere => "write it into element 4, item 2",
         };
         write!(

@@ -1,9 +1,9 @@
 //! What is wrong with the branches of a step, and with targets.
 use fints_cli_hints_words::guessing::{Named, not_named};
 use fints_cli_hints_words::keys::{
-    Form, Wanted, missing_key, must_be, no_table, unknown_key, wrong_value,
+    Form, WantedKey, missing_key, must_be, no_table, unknown_key, wrong_value,
 };
-use fints_cli_hints_words::places::{Told, names_of, numbered, told, told_at};
+use fints_cli_hints_words::places::{HintText, names_of, numbered, say, say_at};
 use fints_cli_hints_words::quoting::{Quoted, misfit_of};
 use fints_script_cases::Pattern;
 use fints_script_rows::keys::BRANCH_KEYS;
@@ -15,13 +15,13 @@ use toml::{Table, Value};
 
 const TARGET: &str = "a text: the name of a later step, \"again\" or \"stop\"";
 
-const KEYS: [Wanted; 2] = [
-    Wanted {
+const KEYS: [WantedKey; 2] = [
+    WantedKey {
         key: "on",
         form: Form::Text,
         what: "a text, as in \"0030\"",
     },
-    Wanted {
+    WantedKey {
         key: "to",
         form: Form::Text,
         what: TARGET,
@@ -33,7 +33,7 @@ pub fn is_word(text: &str) -> bool {
     text == "again" || text == "stop"
 }
 
-fn no_step(alloc: Global, steps: &NamedRows<'_>, text: &str) -> Told {
+fn no_step(alloc: Global, steps: &NamedRows<'_>, text: &str) -> HintText {
     let names = names_of(alloc, steps.as_slice(), &["again", "stop"])?;
     let named = Named {
         what: "step",
@@ -43,10 +43,10 @@ fn no_step(alloc: Global, steps: &NamedRows<'_>, text: &str) -> Told {
     not_named(alloc, "", &named, text)
 }
 
-fn backward(alloc: Global, place: usize, row: usize, text: &str) -> Told {
+fn backward(alloc: Global, place: usize, row: usize, text: &str) -> HintText {
     let shown = Quoted(text);
     if place == row {
-        return told(
+        return say(
             alloc,
             format_args!(
                 ": {shown} is this step itself; to send it once more write \"again\", and give it the key repeat"
@@ -54,7 +54,7 @@ fn backward(alloc: Global, place: usize, row: usize, text: &str) -> Told {
         );
     }
     let number = place.saturating_add(1);
-    told(
+    say(
         alloc,
         format_args!(
             ": {shown} is step {number}, an earlier one; a target is a later step, \"again\" or \"stop\""
@@ -68,7 +68,7 @@ fn name_slip(
     steps: &NamedRows<'_>,
     row: usize,
     text: &str,
-) -> Told {
+) -> HintText {
     if is_word(text) {
         return Ok(None);
     }
@@ -88,7 +88,7 @@ pub fn target_slip(
     steps: &NamedRows<'_>,
     row: usize,
     target: Option<&Value>,
-) -> Told {
+) -> HintText {
     match target {
         Some(Value::String(text)) => name_slip(alloc, kind, steps, row, text.as_str()),
         Some(value) if kind == FaultKind::WrongKind => must_be(alloc, "", value, TARGET),
@@ -96,13 +96,13 @@ pub fn target_slip(
     }
 }
 
-fn pattern_slip(alloc: Global, text: &str) -> Told {
+fn pattern_slip(alloc: Global, text: &str) -> HintText {
     if Pattern::parse(text.as_bytes()).is_some() {
         return Ok(None);
     }
     let misfit = misfit_of(text, text.chars().find(|ch| !matches!(ch, '*' | '0'..='9')));
     let shown = Quoted(text);
-    told(
+    say(
         alloc,
         format_args!(": the pattern {shown} has {misfit}; a pattern has four, each a digit or *"),
     )
@@ -114,7 +114,7 @@ fn table_slip(
     steps: &NamedRows<'_>,
     row: usize,
     table: &Table,
-) -> Told {
+) -> HintText {
     match kind {
         FaultKind::UnknownKey => unknown_key(alloc, table, &BRANCH_KEYS, "a branch"),
         FaultKind::Missing => missing_key(alloc, table, &BRANCH_KEYS, "a branch"),
@@ -130,7 +130,7 @@ fn branch_slip(
     steps: &NamedRows<'_>,
     row: usize,
     branch: &Value,
-) -> Told {
+) -> HintText {
     match branch {
         Value::Table(table) => table_slip(alloc, kind, steps, row, table),
         _ if kind == FaultKind::WrongKind => no_table(alloc, branch),
@@ -145,11 +145,11 @@ pub fn branches_slip(
     steps: &NamedRows<'_>,
     row: usize,
     branches: &[Value],
-) -> Told {
+) -> HintText {
     for (i, branch) in branches.iter().enumerate() {
         let found = branch_slip(alloc, kind, steps, row, branch)?;
         if found.is_some() {
-            return told_at(alloc, numbered(", branch", i.saturating_add(1)), found);
+            return say_at(alloc, numbered(", branch", i.saturating_add(1)), found);
         }
     }
     Ok(None)

@@ -1,5 +1,5 @@
 //! Arrays with too many entries.
-use fints_cli_hints_words::places::{Told, told};
+use fints_cli_hints_words::places::{HintText, say};
 use fints_cli_hints_words::tables::rows_of;
 use fints_syntax_texts::document::member;
 use std::alloc::Global;
@@ -13,11 +13,11 @@ pub struct Most {
 }
 
 /// The first of these keys whose array has too many entries, which are called so.
-pub fn too_many(alloc: Global, table: &Table, what: &str, all: &[Most]) -> Told {
+pub fn too_many(alloc: Global, table: &Table, what: &str, all: &[Most]) -> HintText {
     for Most { key, most } in all {
         let count = rows_of(member(table, key)).len();
         if count > *most {
-            return told(
+            return say(
                 alloc,
                 format_args!(": {key} has {count} {what}, and may have {most}"),
             );

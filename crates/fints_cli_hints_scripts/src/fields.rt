@@ -1,10 +1,10 @@
 //! What is wrong with a row of `field`.
 use fints_cli_hints_words::guessing::guess_of;
 use fints_cli_hints_words::keys::{
-    Form, Wanted, is_among, missing_key, name_taken, no_table, unknown_key, wrong_value,
+    Form, WantedKey, is_among, missing_key, name_taken, no_table, unknown_key, wrong_value,
 };
 use fints_cli_hints_words::listed::values_slip;
-use fints_cli_hints_words::places::{Told, row_at, row_named, told, told_at};
+use fints_cli_hints_words::places::{HintText, row_at, row_named, say, say_at};
 use fints_script_fields::MAX_LEN;
 use fints_script_rows::keys::{BOUNDED_FIELD_KEYS, FIELD_KEYS, LISTED_FIELD_KEYS};
 use fints_script_rows::{FaultKind, NamedRows};
@@ -35,37 +35,37 @@ fn class_of(table: &Table) -> Class {
     }
 }
 
-const NAME: Wanted = Wanted {
+const NAME: WantedKey = WantedKey {
     key: "name",
     form: Form::Name,
     what: "a text",
 };
 
-const CLASS: Wanted = Wanted {
+const CLASS: WantedKey = WantedKey {
     key: "class",
     form: Form::Text,
     what: "a text",
 };
 
-const MIN: Wanted = Wanted {
+const MIN: WantedKey = WantedKey {
     key: "min",
     form: Form::Integer,
     what: "a number from 0 to 10000, without quotes",
 };
 
-const MAX: Wanted = Wanted {
+const MAX: WantedKey = WantedKey {
     key: "max",
     form: Form::Integer,
     what: "a number from 0 to 10000, without quotes",
 };
 
-const VALUES: Wanted = Wanted {
+const VALUES: WantedKey = WantedKey {
     key: "values",
     form: Form::Array,
     what: "an array",
 };
 
-fn unknown(alloc: Global, table: &Table) -> Told {
+fn unknown(alloc: Global, table: &Table) -> HintText {
     match class_of(table) {
         Class::Bounded => unknown_key(
             alloc,
@@ -83,7 +83,7 @@ fn unknown(alloc: Global, table: &Table) -> Told {
     }
 }
 
-fn missing(alloc: Global, table: &Table) -> Told {
+fn missing(alloc: Global, table: &Table) -> HintText {
     match class_of(table) {
         Class::Bounded => missing_key(
             alloc,
@@ -101,7 +101,7 @@ fn missing(alloc: Global, table: &Table) -> Told {
     }
 }
 
-fn wrong_key(alloc: Global, table: &Table) -> Told {
+fn wrong_key(alloc: Global, table: &Table) -> HintText {
     match class_of(table) {
         Class::Bounded => wrong_value(alloc, table, &[NAME, CLASS, MIN, MAX]),
         Class::Listed => wrong_value(alloc, table, &[NAME, CLASS, VALUES]),
@@ -109,9 +109,9 @@ fn wrong_key(alloc: Global, table: &Table) -> Told {
     }
 }
 
-fn no_class(alloc: Global, text: &str) -> Told {
+fn no_class(alloc: Global, text: &str) -> HintText {
     let guess = guess_of(alloc, &CLASSES, text)?;
-    told(
+    say(
         alloc,
         format_args!(
             ": there is no class {guess}; the classes are digits, plain, text, bin, oneof, account"
@@ -120,7 +120,7 @@ fn no_class(alloc: Global, text: &str) -> Told {
 }
 
 // What is wrong with the listed values, where the class has some.
-fn values_of(alloc: Global, kind: FaultKind, table: &Table) -> Told {
+fn values_of(alloc: Global, kind: FaultKind, table: &Table) -> HintText {
     let accounts = match text_at(table, "class") {
         Some("account") => true,
         Some("oneof") => false,
@@ -129,7 +129,7 @@ fn values_of(alloc: Global, kind: FaultKind, table: &Table) -> Told {
     values_slip(alloc, kind, accounts, member(table, "values"))
 }
 
-fn wrong_kind(alloc: Global, table: &Table) -> Told {
+fn wrong_kind(alloc: Global, table: &Table) -> HintText {
     let found = wrong_key(alloc, table)?;
     if found.is_some() {
         return Ok(found);
@@ -140,10 +140,10 @@ fn wrong_kind(alloc: Global, table: &Table) -> Told {
     }
 }
 
-fn twice(alloc: Global, rows: &NamedRows<'_>, number: u16, table: &Table) -> Told {
+fn twice(alloc: Global, rows: &NamedRows<'_>, number: u16, table: &Table) -> HintText {
     let name = text_at(table, "name").unwrap_or("");
     if name == "dialog" {
-        return told(
+        return say(
             alloc,
             ": the name \"dialog\" is that of the built-in field, the id of the dialogue",
         );
@@ -164,14 +164,14 @@ fn is_past(number: i64) -> bool {
     !(0..=i64::from(MAX_LEN)).contains(&number)
 }
 
-fn past_text(alloc: Global, key: &str, number: i64) -> Told {
-    told(
+fn past_text(alloc: Global, key: &str, number: i64) -> HintText {
+    say(
         alloc,
         format_args!(": {key} is {number}, and must be from 0 to {MAX_LEN}"),
     )
 }
 
-fn bounds_text(alloc: Global, min: i64, max: i64) -> Told {
+fn bounds_text(alloc: Global, min: i64, max: i64) -> HintText {
     if is_past(min) {
         return past_text(alloc, "min", min);
     }
@@ -179,18 +179,18 @@ fn bounds_text(alloc: Global, min: i64, max: i64) -> Told {
         return past_text(alloc, "max", max);
     }
     if max < min {
-        return told(
+        return say(
             alloc,
             format_args!(": min is {min} and max is {max}; min may not be over max"),
         );
     }
-    told(
+    say(
         alloc,
         ": min is 0, and must be at least 1 for the class bin",
     )
 }
 
-fn past(alloc: Global, table: &Table) -> Told {
+fn past(alloc: Global, table: &Table) -> HintText {
     match (
         class_of(table),
         number_at(table, "min"),
@@ -207,7 +207,7 @@ fn table_slip(
     rows: &NamedRows<'_>,
     number: u16,
     table: &Table,
-) -> Told {
+) -> HintText {
     match kind {
         FaultKind::UnknownKey => unknown(alloc, table),
         FaultKind::Missing => missing(alloc, table),
@@ -219,7 +219,7 @@ fn table_slip(
 }
 
 /// What the fault of this kind in a row of `field` is about.
-pub fn field_hint(alloc: Global, kind: FaultKind, rows: &NamedRows<'_>, number: u16) -> Told {
+pub fn field_hint(alloc: Global, kind: FaultKind, rows: &NamedRows<'_>, number: u16) -> HintText {
     let Some(row) = row_at(rows.as_slice(), number) else {
         return Ok(None);
     };
@@ -227,7 +227,7 @@ pub fn field_hint(alloc: Global, kind: FaultKind, rows: &NamedRows<'_>, number: 
         Value::Table(table) => table_slip(alloc, kind, rows, number, table)?,
         _ => no_table(alloc, row)?,
     };
-    told_at(
+    say_at(
         alloc,
         row_named("field", usize::from(number), row, "name"),
         found,

@@ -3,8 +3,8 @@ use crate::counts::{Most, too_many};
 use crate::fields::field_hint;
 use crate::signers::{seal_hint, signer_hint};
 use crate::steps::{Around, step_hint};
-use fints_cli_hints_words::keys::{Form, Wanted, missing_key, unknown_key, wrong_value};
-use fints_cli_hints_words::places::{Told, told_at};
+use fints_cli_hints_words::keys::{Form, WantedKey, missing_key, unknown_key, wrong_value};
+use fints_cli_hints_words::places::{HintText, say_at};
 use fints_cli_hints_words::tables::rows_of;
 use fints_cli_hints_words::unread::{too_long, why_no_toml};
 use fints_script_rows::keys::SCRIPT_KEYS;
@@ -16,18 +16,18 @@ use fints_syntax_texts::{MAX_TEXT, document};
 use std::alloc::Global;
 use toml::Table;
 
-const KEYS: [Wanted; 3] = [
-    Wanted {
+const KEYS: [WantedKey; 3] = [
+    WantedKey {
         key: "field",
         form: Form::Array,
         what: "an array of tables: write [[field]], with two brackets",
     },
-    Wanted {
+    WantedKey {
         key: "signer",
         form: Form::Array,
         what: "an array of tables: write [[signer]], with two brackets",
     },
-    Wanted {
+    WantedKey {
         key: "step",
         form: Form::List,
         what: "an array of at least one table: write [[step]], with two brackets",
@@ -49,7 +49,7 @@ const ROWS: [Most; 3] = [
     },
 ];
 
-fn top_slip(alloc: Global, kind: FaultKind, table: &Table) -> Told {
+fn top_slip(alloc: Global, kind: FaultKind, table: &Table) -> HintText {
     match kind {
         FaultKind::UnknownKey => unknown_key(alloc, table, &SCRIPT_KEYS, "a script"),
         FaultKind::Missing => missing_key(alloc, table, &["step"], "a script"),
@@ -59,16 +59,16 @@ fn top_slip(alloc: Global, kind: FaultKind, table: &Table) -> Told {
     }
 }
 
-fn top_hint(alloc: Global, kind: FaultKind, table: &Table) -> Told {
+fn top_hint(alloc: Global, kind: FaultKind, table: &Table) -> HintText {
     let found = top_slip(alloc, kind, table)?;
-    told_at(alloc, "top", found)
+    say_at(alloc, "top", found)
 }
 
 fn fields_of(alloc: Global, table: &Table) -> Result<NamedRows<'_>, Memory> {
     NamedRows::new(alloc, rows_of(member(table, "field")))
 }
 
-fn steps_hint(alloc: Global, kind: FaultKind, table: &Table, row: u16) -> Told {
+fn steps_hint(alloc: Global, kind: FaultKind, table: &Table, row: u16) -> HintText {
     let fields = fields_of(alloc, table)?;
     let steps = NamedRows::new(alloc, rows_of(member(table, "step")))?;
     let around = Around {
@@ -81,7 +81,7 @@ fn steps_hint(alloc: Global, kind: FaultKind, table: &Table, row: u16) -> Told {
 }
 
 // Too many rows are a fault of the top, so names are looked up among as many as a script may have.
-fn table_hint(alloc: Global, fault: &ScriptFault, table: &Table) -> Told {
+fn table_hint(alloc: Global, fault: &ScriptFault, table: &Table) -> HintText {
     let ScriptFault { place, kind } = *fault;
     match place {
         Place::Top => top_hint(alloc, kind, table),
@@ -103,7 +103,7 @@ fn table_hint(alloc: Global, fault: &ScriptFault, table: &Table) -> Told {
 }
 
 /// What the refusal of a script is about.
-pub fn script_hint(alloc: Global, fault: &ScriptFault, text: &[u8]) -> Told {
+pub fn script_hint(alloc: Global, fault: &ScriptFault, text: &[u8]) -> HintText {
     if fault.kind == FaultKind::NotToml {
         return why_no_toml(alloc, text);
     }

@@ -1,7 +1,9 @@
 //! What is wrong with the segments of a step.
 use fints_cli_hints_words::elements::elements_slip;
-use fints_cli_hints_words::keys::{Form, Wanted, missing_key, no_table, unknown_key, wrong_value};
-use fints_cli_hints_words::places::{Told, row_named, told, told_at};
+use fints_cli_hints_words::keys::{
+    Form, WantedKey, missing_key, no_table, unknown_key, wrong_value,
+};
+use fints_cli_hints_words::places::{HintText, row_named, say, say_at};
 use fints_cli_hints_words::quoting::Quoted;
 use fints_script_rows::keys::SEGMENT_KEYS;
 use fints_script_rows::{FaultKind, NamedRows};
@@ -11,25 +13,25 @@ use fints_syntax_texts::entries::text_at;
 use std::alloc::Global;
 use toml::{Table, Value};
 
-const KEYS: [Wanted; 3] = [
-    Wanted {
+const KEYS: [WantedKey; 3] = [
+    WantedKey {
         key: "kind",
         form: Form::Text,
         what: "a text",
     },
-    Wanted {
+    WantedKey {
         key: "version",
         form: Form::Integer,
         what: "a number from 1 to 999, without quotes",
     },
-    Wanted {
+    WantedKey {
         key: "elements",
         form: Form::Array,
         what: "an array: the elements from element 2 on",
     },
 ];
 
-const VERSION: Wanted = Wanted {
+const VERSION: WantedKey = WantedKey {
     key: "version",
     form: Form::Within(1, 999),
     what: "from 1 to 999",
@@ -47,12 +49,12 @@ fn bad_kind(text: &str) -> Option<&'static str> {
 }
 
 // What is wrong with values of the right forms.
-fn wrong_text(alloc: Global, fields: &NamedRows<'_>, table: &Table) -> Told {
+fn wrong_text(alloc: Global, fields: &NamedRows<'_>, table: &Table) -> HintText {
     let kind = text_at(table, "kind").unwrap_or("");
     match bad_kind(kind) {
         Some(why) => {
             let shown = Quoted(kind);
-            told(alloc, format_args!(": the kind {shown} {why}"))
+            say(alloc, format_args!(": the kind {shown} {why}"))
         }
         None => {
             let elements = member(table, "elements");
@@ -61,14 +63,14 @@ fn wrong_text(alloc: Global, fields: &NamedRows<'_>, table: &Table) -> Told {
     }
 }
 
-fn wrong_kind(alloc: Global, fields: &NamedRows<'_>, table: &Table) -> Told {
+fn wrong_kind(alloc: Global, fields: &NamedRows<'_>, table: &Table) -> HintText {
     match wrong_value(alloc, table, &KEYS)? {
         None => wrong_text(alloc, fields, table),
         found => Ok(found),
     }
 }
 
-fn table_slip(alloc: Global, kind: FaultKind, fields: &NamedRows<'_>, table: &Table) -> Told {
+fn table_slip(alloc: Global, kind: FaultKind, fields: &NamedRows<'_>, table: &Table) -> HintText {
     match kind {
         FaultKind::UnknownKey => { unknown_key(alloc, table, &SEGMENT_KEYS, "a segment") }
         FaultKind::Missing => missing_key(alloc, table, &["kind", "version"], "a segment"),
@@ -78,7 +80,7 @@ fn table_slip(alloc: Global, kind: FaultKind, fields: &NamedRows<'_>, table: &Ta
     }
 }
 
-fn row_slip(alloc: Global, kind: FaultKind, fields: &NamedRows<'_>, row: &Value) -> Told {
+fn row_slip(alloc: Global, kind: FaultKind, fields: &NamedRows<'_>, row: &Value) -> HintText {
     match row {
         Value::Table(table) => table_slip(alloc, kind, fields, table),
         _ if kind == FaultKind::WrongKind => no_table(alloc, row),
@@ -92,12 +94,12 @@ pub fn segments_slip(
     kind: FaultKind,
     fields: &NamedRows<'_>,
     rows: &[Value],
-) -> Told {
+) -> HintText {
     for (i, row) in rows.iter().enumerate() {
         let found = row_slip(alloc, kind, fields, row)?;
         if found.is_some() {
             let place = row_named(", segment", i.saturating_add(1), row, "kind");
-            return told_at(alloc, place, found);
+            return say_at(alloc, place, found);
         }
     }
     Ok(None)

@@ -1,9 +1,9 @@
 //! What is wrong with a row of `signer`, or with the seal.
 use fints_cli_hints_words::elements::elements_slip;
 use fints_cli_hints_words::keys::{
-    Form, Wanted, missing_key, must_be, name_taken, no_table, unknown_key, wrong_value,
+    Form, WantedKey, missing_key, must_be, name_taken, no_table, unknown_key, wrong_value,
 };
-use fints_cli_hints_words::places::{Told, row_at, row_named, told, told_at};
+use fints_cli_hints_words::places::{HintText, row_at, row_named, say, say_at};
 use fints_script_rows::keys::SIGNER_KEYS;
 use fints_script_rows::limits::MAX_TEMPLATE_ITEMS;
 use fints_script_rows::{FaultKind, NamedRows};
@@ -28,7 +28,7 @@ fn item_count(values: &[Value]) -> usize {
     count
 }
 
-fn many(alloc: Global, value: Option<&Value>) -> Told {
+fn many(alloc: Global, value: Option<&Value>) -> HintText {
     let count = match value {
         Some(Value::Array(values)) => item_count(values.as_slice()),
         _ => 0,
@@ -36,7 +36,7 @@ fn many(alloc: Global, value: Option<&Value>) -> Told {
     if count as u64 <= MAX_TEMPLATE_ITEMS {
         return Ok(None);
     }
-    told(
+    say(
         alloc,
         format_args!(" has {count} items, and may have {MAX_TEMPLATE_ITEMS}"),
     )
@@ -48,49 +48,49 @@ fn list_slip(
     kind: FaultKind,
     fields: &NamedRows<'_>,
     value: Option<&Value>,
-) -> Told {
+) -> HintText {
     match kind {
         FaultKind::Limit => many(alloc, value),
         _ => elements_slip(alloc, kind, fields, false, value),
     }
 }
 
-fn ends_slip(alloc: Global, kind: FaultKind, fields: &NamedRows<'_>, table: &Table) -> Told {
+fn ends_slip(alloc: Global, kind: FaultKind, fields: &NamedRows<'_>, table: &Table) -> HintText {
     match list_slip(alloc, kind, fields, member(table, "head"))? {
         None => {
             let found = list_slip(alloc, kind, fields, member(table, "end"))?;
-            told_at(alloc, ", end", found)
+            say_at(alloc, ", end", found)
         }
-        found => told_at(alloc, ", head", found),
+        found => say_at(alloc, ", head", found),
     }
 }
 
-const KEYS: [Wanted; 3] = [
-    Wanted {
+const KEYS: [WantedKey; 3] = [
+    WantedKey {
         key: "name",
         form: Form::Name,
         what: "a text",
     },
-    Wanted {
+    WantedKey {
         key: "head",
         form: Form::Array,
         what: "an array: the elements of HNSHK from element 2 on",
     },
-    Wanted {
+    WantedKey {
         key: "end",
         form: Form::Array,
         what: "an array: the elements of HNSHA from element 2 on",
     },
 ];
 
-fn wrong_kind(alloc: Global, fields: &NamedRows<'_>, table: &Table) -> Told {
+fn wrong_kind(alloc: Global, fields: &NamedRows<'_>, table: &Table) -> HintText {
     match wrong_value(alloc, table, &KEYS)? {
         None => ends_slip(alloc, FaultKind::WrongKind, fields, table),
         found => Ok(found),
     }
 }
 
-fn twice(alloc: Global, rows: &[Value], table: &Table) -> Told {
+fn twice(alloc: Global, rows: &[Value], table: &Table) -> HintText {
     let name = text_at(table, "name").unwrap_or("");
     for (i, row) in rows.iter().enumerate() {
         if is_named(name, row) {
@@ -106,7 +106,7 @@ fn table_slip(
     fields: &NamedRows<'_>,
     rows: &[Value],
     table: &Table,
-) -> Told {
+) -> HintText {
     match kind {
         FaultKind::UnknownKey => unknown_key(alloc, table, &SIGNER_KEYS, "a signer"),
         FaultKind::Missing => missing_key(alloc, table, &SIGNER_KEYS, "a signer"),
@@ -123,7 +123,7 @@ pub fn signer_hint(
     fields: &NamedRows<'_>,
     rows: &[Value],
     number: u16,
-) -> Told {
+) -> HintText {
     let Some(row) = row_at(rows, number) else {
         return Ok(None);
     };
@@ -131,7 +131,7 @@ pub fn signer_hint(
         Value::Table(table) => table_slip(alloc, kind, fields, rows, table)?,
         _ => no_table(alloc, row)?,
     };
-    told_at(
+    say_at(
         alloc,
         row_named("signer", usize::from(number), row, "name"),
         found,
@@ -144,11 +144,11 @@ pub fn seal_hint(
     kind: FaultKind,
     fields: &NamedRows<'_>,
     value: Option<&Value>,
-) -> Told {
+) -> HintText {
     match value {
         Some(Value::Array(_)) => {
             let found = list_slip(alloc, kind, fields, value)?;
-            told_at(alloc, "seal", found)
+            say_at(alloc, "seal", found)
         }
         Some(other) => must_be(
             alloc,

@@ -5,9 +5,9 @@ use crate::segments::segments_slip;
 use crate::weights::{Parts, size_slip};
 use fints_cli_hints_words::guessing::{Named, not_named};
 use fints_cli_hints_words::keys::{
-    Form, Wanted, missing_key, must_be, name_taken, no_table, unknown_key, wrong_value,
+    Form, WantedKey, missing_key, must_be, name_taken, no_table, unknown_key, wrong_value,
 };
-use fints_cli_hints_words::places::{Told, names_of, row_at, row_named, told, told_at};
+use fints_cli_hints_words::places::{HintText, names_of, row_at, row_named, say, say_at};
 use fints_cli_hints_words::quoting::Quoted;
 use fints_cli_hints_words::tables::{is_set, rows_of};
 use fints_script_rows::keys::STEP_KEYS;
@@ -39,22 +39,22 @@ fn step_with_seal(steps: &[Value]) -> Option<usize> {
     None
 }
 
-fn no_seal(alloc: Global, steps: &[Value]) -> Told {
+fn no_seal(alloc: Global, steps: &[Value]) -> HintText {
     match step_with_seal(steps) {
-        Some(number) => told(
+        Some(number) => say(
             alloc,
             format_args!(
-                ": sealed is true, and \"seal\" stands in step {number}, not in the script itself: write it at the top, before all tables"
+                ": sealed is true, and \"seal\" is in step {number}, not in the script itself: write it at the top, before all tables"
             ),
         ),
-        None => told(
+        None => say(
             alloc,
             ": sealed is true, and the script has no key \"seal\" at its top",
         ),
     }
 }
 
-fn missing(alloc: Global, around: &Around<'_, '_>, table: &Table) -> Told {
+fn missing(alloc: Global, around: &Around<'_, '_>, table: &Table) -> HintText {
     match missing_key(alloc, table, &["name", "segments"], "a step")? {
         None if is_set(member(table, "sealed")) && around.seal.is_none() => {
             no_seal(alloc, around.steps.as_slice())
@@ -63,40 +63,40 @@ fn missing(alloc: Global, around: &Around<'_, '_>, table: &Table) -> Told {
     }
 }
 
-const KEYS: [Wanted; 6] = [
-    Wanted {
+const KEYS: [WantedKey; 6] = [
+    WantedKey {
         key: "name",
         form: Form::Name,
         what: "a text",
     },
-    Wanted {
+    WantedKey {
         key: "sealed",
         form: Form::Flag,
         what: "true or false, without quotes",
     },
-    Wanted {
+    WantedKey {
         key: "repeat",
         form: Form::Integer,
         what: "a number from 1 to 99, without quotes",
     },
-    Wanted {
+    WantedKey {
         key: "segments",
         form: Form::List,
         what: "an array of at least one table",
     },
-    Wanted {
+    WantedKey {
         key: "signers",
         form: Form::Array,
         what: "an array of names",
     },
-    Wanted {
+    WantedKey {
         key: "branches",
         form: Form::Array,
         what: "an array of tables",
     },
 ];
 
-const REPEAT: Wanted = Wanted {
+const REPEAT: WantedKey = WantedKey {
     key: "repeat",
     form: Form::Within(1, MAX_REPEAT),
     what: "from 1 to 99",
@@ -117,15 +117,15 @@ const ENTRIES: [Most; 3] = [
     },
 ];
 
-fn no_name(alloc: Global, word: &str) -> Told {
+fn no_name(alloc: Global, word: &str) -> HintText {
     let shown = Quoted(word);
-    told(
+    say(
         alloc,
         format_args!(": no step may be named {shown}, a word that targets have"),
     )
 }
 
-fn twice(alloc: Global, steps: &NamedRows<'_>, row: usize, table: &Table) -> Told {
+fn twice(alloc: Global, steps: &NamedRows<'_>, row: usize, table: &Table) -> HintText {
     let name = text_at(table, "name").unwrap_or("");
     match steps.place_of(name) {
         _ if is_word(name) => no_name(alloc, name),
@@ -134,7 +134,7 @@ fn twice(alloc: Global, steps: &NamedRows<'_>, row: usize, table: &Table) -> Tol
     }
 }
 
-fn past(alloc: Global, table: &Table) -> Told {
+fn past(alloc: Global, table: &Table) -> HintText {
     match wrong_value(alloc, table, &[REPEAT])? {
         None => too_many(alloc, table, "entries", &ENTRIES),
         found => Ok(found),
@@ -148,7 +148,7 @@ fn own_slip(
     around: &Around<'_, '_>,
     row: usize,
     table: &Table,
-) -> Told {
+) -> HintText {
     match kind {
         FaultKind::UnknownKey => unknown_key(alloc, table, &STEP_KEYS, "a step"),
         FaultKind::Missing => missing(alloc, around, table),
@@ -159,7 +159,7 @@ fn own_slip(
     }
 }
 
-fn no_signer(alloc: Global, signers: &[Value], number: usize, name: &str) -> Told {
+fn no_signer(alloc: Global, signers: &[Value], number: usize, name: &str) -> HintText {
     let names = names_of(alloc, signers, &[])?;
     let named = Named {
         what: "signer",
@@ -180,7 +180,7 @@ fn signature_slip(
     signers: &[Value],
     number: usize,
     entry: &Value,
-) -> Told {
+) -> HintText {
     match (kind, entry) {
         (FaultKind::NoSuchName, Value::String(name)) if !some_is_named(name.as_str(), signers) => {
             no_signer(alloc, signers, number, name.as_str())
@@ -196,7 +196,12 @@ fn signature_slip(
     }
 }
 
-fn signatures_slip(alloc: Global, kind: FaultKind, signers: &[Value], entries: &[Value]) -> Told {
+fn signatures_slip(
+    alloc: Global,
+    kind: FaultKind,
+    signers: &[Value],
+    entries: &[Value],
+) -> HintText {
     for (i, entry) in entries.iter().enumerate() {
         let found = signature_slip(alloc, kind, signers, i.saturating_add(1), entry)?;
         if found.is_some() {
@@ -213,11 +218,11 @@ fn ways_slip(
     steps: &NamedRows<'_>,
     row: usize,
     table: &Table,
-) -> Told {
+) -> HintText {
     match branches_slip(alloc, kind, steps, row, rows_of(member(table, "branches")))? {
         None => {
             let found = target_slip(alloc, kind, steps, row, member(table, "default"))?;
-            told_at(alloc, ", default", found)
+            say_at(alloc, ", default", found)
         }
         found => Ok(found),
     }
@@ -230,7 +235,7 @@ fn parts_slip(
     around: &Around<'_, '_>,
     row: usize,
     table: &Table,
-) -> Told {
+) -> HintText {
     let segments = rows_of(member(table, "segments"));
     let found = segments_slip(alloc, kind, around.fields, segments)?;
     if found.is_some() {
@@ -244,7 +249,7 @@ fn parts_slip(
     ways_slip(alloc, kind, around.steps, row, table)
 }
 
-fn size_of(alloc: Global, around: &Around<'_, '_>, table: &Table) -> Told {
+fn size_of(alloc: Global, around: &Around<'_, '_>, table: &Table) -> HintText {
     let seal = if is_set(member(table, "sealed")) {
         around.seal
     } else {
@@ -266,7 +271,7 @@ fn table_slip(
     around: &Around<'_, '_>,
     row: usize,
     table: &Table,
-) -> Told {
+) -> HintText {
     let found = own_slip(alloc, kind, around, row, table)?;
     if found.is_some() {
         return Ok(found);
@@ -278,7 +283,7 @@ fn table_slip(
 }
 
 /// What the fault of this kind in a row of `step` is about.
-pub fn step_hint(alloc: Global, kind: FaultKind, around: &Around<'_, '_>, number: u16) -> Told {
+pub fn step_hint(alloc: Global, kind: FaultKind, around: &Around<'_, '_>, number: u16) -> HintText {
     let Some(row) = row_at(around.steps.as_slice(), number) else {
         return Ok(None);
     };
@@ -287,7 +292,7 @@ pub fn step_hint(alloc: Global, kind: FaultKind, around: &Around<'_, '_>, number
         Value::Table(table) => table_slip(alloc, kind, around, index, table)?,
         _ => no_table(alloc, row)?,
     };
-    told_at(
+    say_at(
         alloc,
         row_named("step", usize::from(number), row, "name"),
         found,

@@ -1,11 +1,11 @@
 //! How many items the segments of a step have, and how much they weigh, by the reader's own measure.
 
-use fints_cli_hints_words::places::{Told, row_named, told};
+use fints_cli_hints_words::places::{HintText, row_named, say};
 use fints_script_rows::limits::{MAX_TEMPLATE_ITEMS, MAX_WEIGHT};
 use fints_script_rows::{FaultKind, Fields, NamedRows, field_in};
 use fints_script_templates::segments::segment_in;
 use fints_script_templates::signers::frame_in;
-use fints_script_templates::weights::{Figures, all_figures, spend_elements, spend_segment};
+use fints_script_templates::weights::{FieldWeight, all_figures, spend_elements, spend_segment};
 use fints_script_templates::{Template, TemplateElements};
 use fints_syntax::Memory;
 use fints_syntax_texts::document::member;
@@ -82,7 +82,7 @@ fn frames_in(
 /// A step's segments, those of its frame, and the figures of the script's fields.
 #[derive(Drop)]
 struct Measured {
-    figures: Vec<Figures>,
+    figures: Vec<FieldWeight>,
     segments: Vec<Template>,
     frames: Vec<TemplateElements>,
 }
@@ -103,9 +103,9 @@ fn spent(left: Option<u64>) -> u64 {
     u64::MAX - left.unwrap_or(0)
 }
 
-fn many_text(alloc: Global, number: usize, row: &Value, count: u64) -> Told {
+fn many_text(alloc: Global, number: usize, row: &Value, count: u64) -> HintText {
     let place = row_named(", segment", number, row, "kind");
-    told(
+    say(
         alloc,
         format_args!(
             "{place}: elements has {count} items, and may have {MAX_TEMPLATE_ITEMS}; an account field counts as its value with the most items"
@@ -114,7 +114,7 @@ fn many_text(alloc: Global, number: usize, row: &Value, count: u64) -> Told {
 }
 
 // The first segment with too many items.
-fn many_items(alloc: Global, measured: &Measured, rows: &[Value]) -> Told {
+fn many_items(alloc: Global, measured: &Measured, rows: &[Value]) -> HintText {
     let figures = measured.figures.as_slice();
     for (i, (row, segment)) in rows.iter().zip(&measured.segments).enumerate() {
         let count = spent(spend_elements(u64::MAX, figures, &segment.elements));
@@ -164,11 +164,11 @@ fn frames_weight(measured: &Measured) -> u64 {
     total
 }
 
-fn weight_text(alloc: Global, measured: &Measured) -> Told {
+fn weight_text(alloc: Global, measured: &Measured) -> HintText {
     let (most, own) = heaviest(measured);
     let total = own.saturating_add(frames_weight(measured));
     let Weight { place, weight } = most;
-    told(
+    say(
         alloc,
         format_args!(
             ": the step weighs {total}, and may weigh {MAX_WEIGHT}: 15 for each segment, and for each item 1 and its longest length; segment {place} weighs most, {weight}"
@@ -177,7 +177,7 @@ fn weight_text(alloc: Global, measured: &Measured) -> Told {
 }
 
 /// What makes a step too large, where nothing else is wrong with it.
-pub fn size_slip(alloc: Global, parts: &Parts<'_, '_>) -> Told {
+pub fn size_slip(alloc: Global, parts: &Parts<'_, '_>) -> HintText {
     let measured = match measured_in(alloc, parts) {
         Ok(measured) => measured,
         Err(FaultKind::Memory) => return Err(Memory),

@@ -11,7 +11,7 @@ use std::fmt::{Display, Formatter, Write};
 
 /// A segment of a capture, with its offset; whether it is in the data of an HNVSD.
 #[derive(Drop)]
-pub struct Found {
+pub struct CaptureSegment {
     pub offset: usize,
     pub inner: bool,
     pub segment: OwnedSegment,
@@ -41,13 +41,13 @@ pub fn data_of<'a>(placed: &Placed<'a>) -> Option<Data<'a>> {
 
 fn push_found(
     alloc: Global,
-    all: &mut Vec<Found>,
+    all: &mut Vec<CaptureSegment>,
     base: usize,
     inner: bool,
     placed: &Placed<'_>,
 ) -> Result<(), Memory> {
     let segment = placed.segment.to_owned(alloc)?;
-    all.push(Found {
+    all.push(CaptureSegment {
         offset: base.saturating_add(placed.start),
         inner,
         segment,
@@ -56,7 +56,7 @@ fn push_found(
 }
 
 // Adds the segments of data; none where they can't be read.
-fn push_data(alloc: Global, all: &mut Vec<Found>, data: Data<'_>) -> Result<(), Memory> {
+fn push_data(alloc: Global, all: &mut Vec<CaptureSegment>, data: Data<'_>) -> Result<(), Memory> {
     if let Ok(inner) = parse_placed(alloc, data.bytes) {
         for placed in inner.iter() {
             push_found(alloc, all, data.base, true, placed)?;
@@ -65,7 +65,11 @@ fn push_data(alloc: Global, all: &mut Vec<Found>, data: Data<'_>) -> Result<(), 
     Ok(())
 }
 
-fn push_placed(alloc: Global, all: &mut Vec<Found>, placed: &Placed<'_>) -> Result<(), Memory> {
+fn push_placed(
+    alloc: Global,
+    all: &mut Vec<CaptureSegment>,
+    placed: &Placed<'_>,
+) -> Result<(), Memory> {
     match data_of(placed) {
         Some(data) => push_data(alloc, all, data),
         None => push_found(alloc, all, 0, false, placed),
@@ -73,7 +77,7 @@ fn push_placed(alloc: Global, all: &mut Vec<Found>, placed: &Placed<'_>) -> Resu
 }
 
 /// The segments of a capture, an HNVSD version 1 replaced by those of its data.
-pub fn flat(alloc: Global, capture: &[u8]) -> Result<Vec<Found>, Memory> {
+pub fn flat(alloc: Global, capture: &[u8]) -> Result<Vec<CaptureSegment>, Memory> {
     let mut all = Vec::new(alloc);
     if let Ok(outer) = parse_placed(alloc, capture) {
         for placed in outer.iter() {
@@ -85,18 +89,18 @@ pub fn flat(alloc: Global, capture: &[u8]) -> Result<Vec<Found>, Memory> {
 
 /// What must be in an element or an item.
 #[derive(Clone, Copy)]
-enum Wanted<'a> {
+enum Expected<'a> {
     /// What the words say.
     Words(&'static str),
     /// Whether orders of this kind need a TAN.
     Flag(&'a [u8]),
 }
 
-impl Display for Wanted<'_> {
+impl Display for Expected<'_> {
     fn fmt<W: Write>(&self, f: &mut Formatter<W>) -> fmt::Result {
         match *self {
-            Wanted::Words(words) => f.write_str(words),
-            Wanted::Flag(kind) => {
+            Expected::Words(words) => f.write_str(words),
+            Expected::Flag(kind) => {
                 let kind = Sample(kind);
                 write!(f, "J or N: whether {kind} needs a TAN")
             }
@@ -110,7 +114,7 @@ pub struct BadElement<'a> {
     element: usize,
     item: Option<usize>,
     value: &'a [u8],
-    wanted: Wanted<'a>,
+    wanted: Expected<'a>,
 }
 
 impl Display for BadElement<'_> {
@@ -141,7 +145,7 @@ pub fn bad_element<'a>(element: usize, value: &'a [u8], words: &'static str) -> 
         element,
         item: None,
         value,
-        wanted: Wanted::Words(words),
+        wanted: Expected::Words(words),
     }
 }
 
@@ -165,7 +169,7 @@ pub fn bad_item<'a>(
         element,
         item: Some(item),
         value,
-        wanted: Wanted::Words(words),
+        wanted: Expected::Words(words),
     }
 }
 
@@ -224,7 +228,7 @@ fn bad_pin<'a>(items: &ElementRef<'a>) -> Option<BadElement<'a>> {
                 element: 5,
                 item: Some(place.saturating_add(2)),
                 value: flag,
-                wanted: Wanted::Flag(kind),
+                wanted: Expected::Flag(kind),
             });
         }
         place = place.saturating_add(2);
@@ -233,7 +237,7 @@ fn bad_pin<'a>(items: &ElementRef<'a>) -> Option<BadElement<'a>> {
 }
 
 // The first element that can't be read of a segment with parameters.
-fn bad_params(found: &Found) -> Option<BadElement<'_>> {
+fn bad_params(found: &CaptureSegment) -> Option<BadElement<'_>> {
     let segment = &found.segment;
     if segment.is_named(b"HIBPA", 3) {
         return bad_bank(segment);
@@ -245,7 +249,7 @@ fn bad_params(found: &Found) -> Option<BadElement<'_>> {
         return bad_pin(&segment.items(5));
     }
     if segment.is_named(b"HNVSD", HNVSD_VERSION) && !found.inner {
-        let words = "a binary item, @length@ and so many bytes";
+        let words = "a binary item, @length@ and as many bytes";
         return Some(bad_element(2, segment.value(2, 1), words));
     }
     None
@@ -256,7 +260,7 @@ fn is_no_code(text: &[u8]) -> bool {
 }
 
 // The first element of feedback that begins with no code.
-fn bad_feedback(found: &Found) -> Option<BadElement<'_>> {
+fn bad_feedback(found: &CaptureSegment) -> Option<BadElement<'_>> {
     let segment = &found.segment;
     if !segment.is_named(b"HIRMG", 2) && !segment.is_named(b"HIRMS", 2) {
         return None;
@@ -274,11 +278,11 @@ fn bad_feedback(found: &Found) -> Option<BadElement<'_>> {
 /// A segment with the first of its elements that can't be read.
 #[derive(Clone, Copy)]
 pub struct BadSegment<'a> {
-    pub found: &'a Found,
+    pub found: &'a CaptureSegment,
     pub element: BadElement<'a>,
 }
 
-fn first_bad_feedback(all: &[Found]) -> Option<BadSegment<'_>> {
+fn first_bad_feedback(all: &[CaptureSegment]) -> Option<BadSegment<'_>> {
     for found in all {
         if let Some(element) = bad_feedback(found) {
             return Some(BadSegment { found, element });
@@ -288,7 +292,7 @@ fn first_bad_feedback(all: &[Found]) -> Option<BadSegment<'_>> {
 }
 
 /// The first segment with an element that can't be read, as parameters, or else as feedback.
-pub fn first_bad_segment(all: &[Found]) -> Option<BadSegment<'_>> {
+pub fn first_bad_segment(all: &[CaptureSegment]) -> Option<BadSegment<'_>> {
     for found in all {
         if let Some(element) = bad_params(found) {
             return Some(BadSegment { found, element });

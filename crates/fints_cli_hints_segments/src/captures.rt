@@ -1,8 +1,8 @@
 //! What the refusal of a capture is about.
-use crate::bad_elements::{BadSegment, Data, Found, data_of, first_bad_segment, flat};
+use crate::bad_elements::{BadSegment, CaptureSegment, Data, data_of, first_bad_segment, flat};
 use crate::forms::form_text;
 use crate::syntax::{IN_DATA, Numbered, Region, bad_start, trouble_at, whole};
-use fints_cli_hints_words::places::{Told, line_at, told};
+use fints_cli_hints_words::places::{HintText, line_at, say};
 use fints_cli_hints_words::quoting::Sample;
 use fints_params::ParamFault;
 use fints_syntax::{MAX_CAPTURE, Memory, Placed, SyntaxFault, SyntaxKind, parse_placed};
@@ -11,7 +11,7 @@ use std::fmt;
 use std::fmt::{Display, Formatter, Write};
 
 // The first segment in the data of this one that can't be read.
-fn data_text(alloc: Global, capture: &[u8], placed: &Placed<'_>) -> Told {
+fn data_text(alloc: Global, capture: &[u8], placed: &Placed<'_>) -> HintText {
     let Some(Data { bytes, base }) = data_of(placed) else {
         return Ok(None);
     };
@@ -27,7 +27,7 @@ fn data_text(alloc: Global, capture: &[u8], placed: &Placed<'_>) -> Told {
     trouble_at(alloc, &region, start)
 }
 
-fn inner_text(alloc: Global, capture: &[u8]) -> Told {
+fn inner_text(alloc: Global, capture: &[u8]) -> HintText {
     let Ok(all) = parse_placed(alloc, capture) else {
         return Ok(None);
     };
@@ -40,10 +40,10 @@ fn inner_text(alloc: Global, capture: &[u8]) -> Told {
     Ok(None)
 }
 
-fn syntax_text(alloc: Global, fault: &SyntaxFault, capture: &[u8]) -> Told {
+fn syntax_text(alloc: Global, fault: &SyntaxFault, capture: &[u8]) -> HintText {
     if fault.kind == SyntaxKind::CaptureTooLong {
         let len = capture.len();
-        return told(
+        return say(
             alloc,
             format_args!("longer than {MAX_CAPTURE} bytes: it has {len}"),
         );
@@ -62,7 +62,7 @@ pub struct InLine {
     pub line: usize,
 }
 
-fn in_line(capture: &[u8], found: &Found) -> InLine {
+fn in_line(capture: &[u8], found: &CaptureSegment) -> InLine {
     let head = &found.segment.head;
     InLine {
         name: Numbered {
@@ -80,15 +80,15 @@ impl Display for InLine {
     }
 }
 
-fn element_text(alloc: Global, capture: &[u8], all: &[Found]) -> Told {
+fn element_text(alloc: Global, capture: &[u8], all: &[CaptureSegment]) -> HintText {
     let Some(BadSegment { found, element }) = first_bad_segment(all) else {
         return Ok(None);
     };
     let place = in_line(capture, found);
-    told(alloc, format_args!("{place}, {element}"))
+    say(alloc, format_args!("{place}, {element}"))
 }
 
-fn two_banks(alloc: Global, capture: &[u8], all: &[Found]) -> Told {
+fn two_banks(alloc: Global, capture: &[u8], all: &[CaptureSegment]) -> HintText {
     let mut banks = all
         .iter()
         .filter(|found| found.segment.is_named(b"HIBPA", 3));
@@ -96,7 +96,7 @@ fn two_banks(alloc: Global, capture: &[u8], all: &[Found]) -> Told {
         return Ok(None);
     };
     let (first, second) = (in_line(capture, first), in_line(capture, second));
-    told(
+    say(
         alloc,
         format_args!(
             "{second} is a second HIBPA version 3; the first is {first}. A capture has one bank's parameters, once"
@@ -120,23 +120,23 @@ impl Display for Needed {
     }
 }
 
-fn of_kind<'a>(all: &'a [Found], id: &[u8]) -> Option<&'a Found> {
+fn of_kind<'a>(all: &'a [CaptureSegment], id: &[u8]) -> Option<&'a CaptureSegment> {
     all.iter()
         .find(|found| found.segment.head.id.as_bytes() == id)
 }
 
 // That no segment has this identifier and version.
-fn none_text(alloc: Global, capture: &[u8], all: &[Found], needed: Needed) -> Told {
+fn none_text(alloc: Global, capture: &[u8], all: &[CaptureSegment], needed: Needed) -> HintText {
     let Some(other) = of_kind(all, needed.id) else {
         let count = all.len();
-        return told(
+        return say(
             alloc,
             format_args!("none of the {count} segments is {needed}"),
         );
     };
     let place = in_line(capture, other);
     let version = other.segment.head.version;
-    told(
+    say(
         alloc,
         format_args!("no segment is {needed}; {place} has version {version}"),
     )
@@ -154,7 +154,7 @@ const PINS: Needed = Needed {
     what: "which orders need a TAN",
 };
 
-fn segments_hint(alloc: Global, fault: &ParamFault, capture: &[u8]) -> Told {
+fn segments_hint(alloc: Global, fault: &ParamFault, capture: &[u8]) -> HintText {
     let all = flat(alloc, capture)?;
     match fault {
         ParamFault::BadElement { .. } => element_text(alloc, capture, all.as_slice()),
@@ -166,12 +166,12 @@ fn segments_hint(alloc: Global, fault: &ParamFault, capture: &[u8]) -> Told {
 }
 
 /// What the refusal of a capture is about.
-pub fn params_hint(alloc: Global, fault: &ParamFault, capture: &[u8]) -> Told {
+pub fn params_hint(alloc: Global, fault: &ParamFault, capture: &[u8]) -> HintText {
     if *fault == ParamFault::Memory {
         return Ok(None);
     }
     if let Some(text) = form_text(capture) {
-        return told(alloc, text);
+        return say(alloc, text);
     }
     match fault {
         ParamFault::Syntax(fault) => syntax_text(alloc, fault, capture),

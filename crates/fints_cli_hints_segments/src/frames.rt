@@ -1,8 +1,8 @@
 //! Segments that can't be at their place in a message.
 use crate::syntax::{Rest, begin_of, named, trouble};
-use fints_cli_hints_words::places::{Told, told, written};
+use fints_cli_hints_words::places::{HintText, say, written};
 use fints_cli_hints_words::quoting::Sample;
-use fints_rules_messages::{Inner, Part, part_of};
+use fints_rules_messages::{Inner, MessagePart, part_of};
 use fints_syntax::{
     HNHBK_VERSION, HNHBS_VERSION, HNSHA_VERSION, HNSHK_VERSION, HNVSD_VERSION, HNVSK_NUMBER,
     HNVSK_VERSION, Kind, Memory, SegmentView, parse_number, parse_segment,
@@ -52,9 +52,9 @@ fn frame_text(alloc: Global, view: &SegmentView<'_>) -> Result<String, Memory> {
         _ if view.id().is(b"HNVSK") && view.number() != HNVSK_NUMBER => order_text(
             alloc,
             view,
-            "can't stand there: HNVSK has the number 998, and stands behind HNHBK",
+            "can't be there: HNVSK has the number 998, and comes after HNHBK",
         ),
-        _ => order_text(alloc, view, "can't stand there, by the order of a message"),
+        _ => order_text(alloc, view, "can't be there, by the order of a message"),
     }
 }
 
@@ -66,31 +66,31 @@ pub fn order_slip(
 ) -> Result<String, Memory> {
     let wanted = inner.next_number();
     match part_of(view) {
-        Part::Other => frame_text(alloc, view),
+        MessagePart::Other => frame_text(alloc, view),
         _ if usize::from(view.number()) != wanted => number_text(alloc, view, wanted),
-        Part::Opener => order_text(
+        MessagePart::Opener => order_text(
             alloc,
             view,
-            "must stand before all other segments but HNHBK",
+            "must come before all other segments but HNHBK",
         ),
-        Part::Ender => order_text(
+        MessagePart::Ender => order_text(
             alloc,
             view,
             "is one HNSHA too many: there are as many as there are HNSHK",
         ),
-        Part::Body => order_text(alloc, view, "can't stand behind HNSHA"),
+        MessagePart::Body => order_text(alloc, view, "can't come after HNSHA"),
     }
 }
 
 // What is wrong with the number of the message in HNHBS, if it isn't this one.
-fn closing_text(alloc: Global, view: &SegmentView<'_>, number: u64) -> Told {
+fn closing_text(alloc: Global, view: &SegmentView<'_>, number: u64) -> HintText {
     let segment = view.to_owned(alloc)?;
     let value = segment.value(2, 1);
     if parse_number(value).map(u64::from) == Some(number) {
         return Ok(None);
     }
     let shown = Sample(value);
-    told(
+    say(
         alloc,
         format_args!(
             "element 2 of HNHBS is {shown}, and must be {number}, the number of the message in HNHBK"
@@ -103,7 +103,7 @@ fn counts_text(alloc: Global, inner: &Inner<'_>) -> Result<String, Memory> {
     written(
         alloc,
         format_args!(
-            "before HNHBS stand {openers} HNSHK and {ends} HNSHA; there must be as many of both"
+            "before HNHBS there are {openers} HNSHK and {ends} HNSHA; there must be as many of both"
         ),
     )
 }
@@ -135,7 +135,7 @@ pub fn unread_text(alloc: Global, rest: Rest<'_>, what: &str) -> Result<String, 
     let begin = begin_of(rest);
     written(
         alloc,
-        format_args!("there must stand {what}; {begin} there{text}"),
+        format_args!("{what} must come there; {begin} there{text}"),
     )
 }
 
@@ -157,7 +157,7 @@ fn other_slip(alloc: Global, view: &SegmentView<'_>, inner: &Inner<'_>) -> Resul
     let name = named(view);
     written(
         alloc,
-        format_args!("behind HNVSD must stand HNHBS version 1, and there stands {name}"),
+        format_args!("after HNVSD must come HNHBS version 1, and this is {name}"),
     )
 }
 

@@ -2,7 +2,7 @@
 use crate::forms::form_text;
 use crate::frames::{next_slip, order_slip, unread_text};
 use crate::syntax::{Begin, Rest, begin_of, is_break, named, rest_at, trouble, wrapped};
-use fints_cli_hints_words::places::{Told, told, written};
+use fints_cli_hints_words::places::{HintText, say, written};
 use fints_cli_hints_words::quoting::Sample;
 use fints_rules_messages::{Inner, Slip, Unread, UnreadObserver};
 use fints_syntax::{
@@ -30,11 +30,11 @@ fn size_text(alloc: Global, size: u64, bytes: &[u8]) -> Result<String, Memory> {
     let breaks = bytes.iter().filter(|b| is_break(**b)).count();
     let ends_line = bytes.last() == Some(&b'\n');
     let last = match (ends_line, breaks) {
-        (true, 1) => ", of which the last is a line feed",
+        (true, 1) => "; the last is a line feed",
         (_, 1..) if size.saturating_add(breaks as u64) == len as u64 => {
             ", as many more as there are line breaks in them: the log was wrapped; join its lines"
         }
-        (true, _) => ", of which the last is a line feed",
+        (true, _) => "; the last is a line feed",
         _ => "",
     };
     written(
@@ -114,12 +114,12 @@ fn left_text(alloc: Global, rest: Rest<'_>) -> Result<String, Memory> {
     match begin_of(rest) {
         Begin::Hidden => written(
             alloc,
-            format_args!("behind HNHBS, the last segment, stand {count} more bytes"),
+            format_args!("after HNHBS, the last segment, come {count} more bytes"),
         ),
         begin => written(
             alloc,
             format_args!(
-                "behind HNHBS, the last segment, stand {count} more bytes, which begin with {begin}"
+                "after HNHBS, the last segment, come {count} more bytes, which begin with {begin}"
             ),
         ),
     }
@@ -142,7 +142,7 @@ fn data_slip(alloc: Global, data: &[u8], inner: &Inner<'_>) -> Result<String, Me
         return written(
             alloc,
             format_args!(
-                "in the data of HNVSD stand {openers} HNSHK and {ends} HNSHA; there must be as many of both"
+                "in the data of HNVSD there are {openers} HNSHK and {ends} HNSHA; there must be as many of both"
             ),
         );
     }
@@ -161,7 +161,7 @@ fn envelope_slip(alloc: Global, view: &SegmentView<'_>) -> Result<String, Memory
         return written(
             alloc,
             format_args!(
-                "behind HNVSK must stand HNVSD version 1, and there stands {name} version {version}"
+                "after HNVSK must come HNVSD version 1, and this is {name} version {version}"
             ),
         );
     }
@@ -194,9 +194,9 @@ fn slip_text(alloc: Global, unread: &Unread<'_>, bytes: &[u8]) -> Result<String,
 }
 
 /// Why bytes begin with no HNHBK of theirs.
-pub fn front_hint(alloc: Global, bytes: &[u8]) -> Told {
+pub fn front_hint(alloc: Global, bytes: &[u8]) -> HintText {
     match form_text(bytes) {
-        Some(text) => told(alloc, text),
+        Some(text) => say(alloc, text),
         None => Ok(Some(start_text(alloc, bytes)?)),
     }
 }

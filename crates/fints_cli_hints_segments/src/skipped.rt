@@ -1,8 +1,8 @@
 //! What is skipped of a capture that can be read, and why.
-use crate::bad_elements::{BadElement, Found, bad_element, bad_item, flat, is_number};
+use crate::bad_elements::{BadElement, CaptureSegment, bad_element, bad_item, flat, is_number};
 use crate::captures::InLine;
 use crate::syntax::{Numbered, is_break};
-use fints_cli_hints_words::places::{Told, written};
+use fints_cli_hints_words::places::{HintText, written};
 use fints_syntax::{ElementRef, ItemRef, Kind, Memory, OwnedSegment};
 use std::alloc::Global;
 
@@ -121,7 +121,7 @@ fn add_break(text: &mut String, alloc: Global, place: &InLine) -> Result<(), Mem
     let note = written(
         alloc,
         format_args!(
-            "note: {place}: a line break stands inside this segment: where the log was wrapped, join its lines\n"
+            "note: {place}: a line break is inside this segment: where the log was wrapped, join its lines\n"
         ),
     )?;
     text.push_str(note.as_str())?;
@@ -155,7 +155,7 @@ fn breaks_between(capture: &[u8], from: usize, to: usize) -> usize {
     bytes.iter().filter(|b| **b == b'\n').count()
 }
 
-fn place_of(found: &Found, line: usize) -> InLine {
+fn place_of(found: &CaptureSegment, line: usize) -> InLine {
     let head = &found.segment.head;
     InLine {
         name: Numbered {
@@ -192,7 +192,7 @@ pub fn skipped_segments(alloc: Global, capture: &[u8]) -> Result<Vec<Skipped>, M
 /// A line for each parameter segment, and each entry of an account, that is skipped: which element can't
 /// be read; and one for each segment that is read and has a line end in it. None where there
 /// is no such.
-pub fn skipped_notes(alloc: Global, capture: &[u8]) -> Told {
+pub fn skipped_notes(alloc: Global, capture: &[u8]) -> HintText {
     let all = flat(alloc, capture)?;
     let mut text = String::new(alloc);
     let mut at: usize = 0;

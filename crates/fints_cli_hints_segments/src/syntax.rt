@@ -1,6 +1,6 @@
 //! Segments that can't be read.
 use crate::scanning::{Stop, binary_of, stop_of};
-use fints_cli_hints_words::places::{Told, line_at, told, written};
+use fints_cli_hints_words::places::{HintText, line_at, say, written};
 use fints_cli_hints_words::quoting::Sample;
 use fints_syntax::{
     Kind, Memory, SegmentView, SyntaxKind, is_frame_kind, parse_number, parse_segment,
@@ -31,8 +31,7 @@ pub fn whole(input: &[u8]) -> Region<'_> {
 }
 
 // What is said of a segment that has a line end in it.
-const WRAPPED: &str =
-    "; a line break stands inside this segment: the log was wrapped; join its lines";
+const WRAPPED: &str = "; a line break is inside this segment: the log was wrapped; join its lines";
 
 /// Whether a line ends with the byte.
 pub fn is_break(byte: u8) -> bool {
@@ -51,7 +50,7 @@ pub fn wrapped(bytes: &[u8]) -> &'static str {
 // That a line ends in the bytes of a segment with a binary item, if one does: it may belong to the data.
 fn wrapped_data(bytes: &[u8]) -> &'static str {
     if bytes.iter().any(|b| is_break(*b)) {
-        "; a line break stands inside this segment: where the log was wrapped, join its lines"
+        "; a line break is inside this segment: where the log was wrapped, join its lines"
     } else {
         ""
     }
@@ -232,7 +231,7 @@ impl Display for Begin<'_> {
                 let id = Sample(id);
                 write!(f, "a segment {id}")
             }
-            Begin::Hidden => f.write_str("what stands"),
+            Begin::Hidden => f.write_str("what is"),
         }
     }
 }
@@ -255,7 +254,7 @@ fn cut_text(alloc: Global, bytes: &[u8], stop: &Stop<'_>) -> Result<String, Memo
             written(
                 alloc,
                 format_args!(
-                    " has no end: the bytes stop in element {element}, item {item}, a binary item of {len} bytes of which {there} are there"
+                    " has no end: the bytes stop in element {element}, item {item}, a binary item of {len} bytes, and {there} are there"
                 ),
             )
         }
@@ -281,13 +280,13 @@ fn binary_text(alloc: Global, bytes: &[u8], stop: &Stop<'_>) -> Result<String, M
         Some((len, _)) => written(
             alloc,
             format_args!(
-                ", element {element}, item {item}: behind the {len} bytes of a binary item stands none of + : '; the length is wrong, or the bytes were changed{wrapped}"
+                ", element {element}, item {item}: after the {len} bytes of a binary item comes none of + : '; the length is wrong, or the bytes were changed{wrapped}"
             ),
         ),
         None => written(
             alloc,
             format_args!(
-                ", element {element}, item {item}: an @ begins a binary item, written @length@ and so many bytes; a text that begins with @ is written ?@{wrapped}"
+                ", element {element}, item {item}: an @ begins a binary item, written @length@ and as many bytes; a text that begins with @ is written ?@{wrapped}"
             ),
         ),
     }
@@ -315,12 +314,12 @@ fn parts_cause(id: &[u8], number: &[u8], version: &[u8]) -> &'static str {
     if !is_number(version) {
         return "its version must have 1 to 3 digits";
     }
-    "behind the version may stand a reference of 1 to 3 digits, and nothing else"
+    "after the version may come a reference of 1 to 3 digits, and nothing else"
 }
 
 fn head_cause(head: &[u8]) -> &'static str {
     if head.contains(&b'?') || head.contains(&b'@') {
-        return "it must be identifier:number:version, or with :reference behind";
+        return "it must be identifier:number:version, or that with :reference after it";
     }
     let colons = head.iter().filter(|b| **b == b':').count();
     if colons < 2 {
@@ -390,21 +389,21 @@ fn is_wrapped_before(bytes: &[u8], place: usize) -> bool {
 fn wrapped_before(region: &Region<'_>, start: usize) -> &'static str {
     match region.bytes.get(start) {
         Some(first) if is_mark(*first) && is_wrapped_before(region.bytes, start) => {
-            "; a line break stands inside a segment before: where the log was wrapped, join its lines"
+            "; a line break is inside an earlier segment: where the log was wrapped, join its lines"
         }
         _ => "",
     }
 }
 
 /// Why no segment can be read at a place of a region.
-pub fn trouble_at(alloc: Global, region: &Region<'_>, start: usize) -> Told {
+pub fn trouble_at(alloc: Global, region: &Region<'_>, start: usize) -> HintText {
     let rest = rest_at(region.bytes, start);
     let line = line_at(region.input, region.base.saturating_add(start));
     let begin = begin_of(rest);
     let within = region.within;
     let text = trouble(alloc, rest.bytes)?;
     let wrapped = wrapped_before(region, start);
-    told(
+    say(
         alloc,
         format_args!("{begin} in line {line}{within}{text}{wrapped}"),
     )

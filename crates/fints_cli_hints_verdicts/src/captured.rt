@@ -1,15 +1,15 @@
 //! What no rule asks for and the capture says against the steps of a script: notes.
 use crate::steps::figures_of;
 use fints_check::Report;
-use fints_cli_hints_captured::{Basis, Captured, Noted, Sent, SentStep, add_captured_notes};
+use fints_cli_hints_captured::{Basis, Captured, Noted, Outgoing, SentStep, add_captured_notes};
 use fints_cli_hints_reasons::lines::Called;
 use fints_cli_hints_words::places::written;
 use fints_script::{Plan, Step};
 use fints_syntax::Memory;
 use std::alloc::Global;
 
-fn sent_by<'a>(plan: &'a Plan<'_>, step: &'a Step) -> Sent<'a> {
-    Sent::Step(SentStep {
+fn sent_by<'a>(plan: &'a Plan<'_>, step: &'a Step) -> Outgoing<'a> {
+    Outgoing::Step(SentStep {
         templates: step.templates(),
         signed_by: step.signers(),
         signers: plan.signers(),

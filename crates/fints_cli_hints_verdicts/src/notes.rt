@@ -32,7 +32,7 @@ impl Display for Unsent {
                 let from = Called(from);
                 write!(
                     f,
-                    "step {from}, which leads there, is unreached too: mend that first"
+                    "step {from}, which leads there, is unreached too: fix that first"
                 )
             }
             Unsent::Closed(branch, from) => {
@@ -70,7 +70,7 @@ fn write_not_sealed<W: Write>(f: &mut Formatter<W>, step: &Name, has_seal: bool)
     };
     write!(
         f,
-        "step {step} is signed and not sealed: write sealed = true in it{seal}, so that a PIN or a TAN doesn't stand in its message as it is"
+        "step {step} is signed and not sealed: write sealed = true in it{seal}, so that no PIN or TAN is in its message in clear"
     )
 }
 
@@ -100,7 +100,7 @@ impl Display for Note {
                 let step = Called(step);
                 write!(
                     f,
-                    "behind step {step} no message ends the dialogue: lead on to a step with HKEND"
+                    "after step {step} no message ends the dialogue: lead on to a step with HKEND"
                 )
             }
             Note::Unused(field) => {

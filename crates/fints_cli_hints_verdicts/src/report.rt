@@ -12,7 +12,7 @@ use fints_cli_hints_reasons::lines::{Where, add_why, name_of};
 use fints_cli_hints_reasons::segment::{Seen, SegmentWhy};
 use fints_cli_hints_reasons::tans::no_tan;
 use fints_cli_hints_reasons::whole::{Before, Whole, WholeWhy, is_of_whole};
-use fints_cli_hints_words::places::Told;
+use fints_cli_hints_words::places::HintText;
 use fints_cli_scripts::ReportObserver;
 use fints_params::Code;
 use fints_rules::{Figures, Permissions, RELEASE, Rule};
@@ -32,7 +32,7 @@ fn branch_behind(step: &Step, t: usize, n: usize) -> Option<BranchOf> {
 
 // A step with a finding.
 #[derive(Clone, Copy)]
-struct Found<'a> {
+struct StepFinding<'a> {
     bank: &'a Bank<'a>,
     plan: &'a Plan<'a>,
     step: &'a Step,
@@ -48,8 +48,8 @@ fn place_of<'a>(name: &'a str, finding: Finding) -> Where<'a> {
 }
 
 // The segment of a template under the finding's values.
-fn seen_in<'a>(found: &Found<'a>, template: &'a Template, values: &'a Values) -> Seen<'a> {
-    let Found {
+fn seen_in<'a>(found: &StepFinding<'a>, template: &'a Template, values: &'a Values) -> Seen<'a> {
+    let StepFinding {
         plan,
         step,
         kinds,
@@ -73,7 +73,7 @@ fn seen_in<'a>(found: &Found<'a>, template: &'a Template, values: &'a Values) ->
 fn add_segment(
     text: &mut String,
     alloc: Global,
-    found: &Found<'_>,
+    found: &StepFinding<'_>,
     template: &Template,
     values: &Values,
 ) -> Result<(), Memory> {
@@ -93,7 +93,7 @@ fn add_segment(
 fn add_whole(
     text: &mut String,
     alloc: Global,
-    found: &Found<'_>,
+    found: &StepFinding<'_>,
     figures: Figures,
     before: Before<'_>,
 ) -> Result<(), Memory> {
@@ -122,7 +122,7 @@ fn add_whole(
 fn add_release(
     text: &mut String,
     alloc: Global,
-    found: &Found<'_>,
+    found: &StepFinding<'_>,
     figures: Figures,
     t: usize,
 ) -> Result<(), Memory> {
@@ -196,7 +196,7 @@ fn add_finding(
     let Some(step) = step_at(plan, n) else {
         return Ok(());
     };
-    let found = Found {
+    let found = StepFinding {
         bank,
         plan,
         step,
@@ -259,7 +259,7 @@ pub struct ReportReasons<'c> {
     alloc: Global,
     wanted: bool,
     capture: &'c [u8],
-    text: Told,
+    text: HintText,
 }
 
 impl<'c> ReportReasons<'c> {
@@ -274,7 +274,7 @@ impl<'c> ReportReasons<'c> {
     }
 
     /// The lines. An error where memory ran out while they were made.
-    pub fn into_text(self) -> Told {
+    pub fn into_text(self) -> HintText {
         self.text
     }
 }

@@ -4,7 +4,7 @@ use crate::steps::step_at;
 use fints_check::{Certificate, Line, Open, Way};
 use fints_cli_hints_reasons::branches::BranchOf;
 use fints_cli_hints_reasons::lines::Called;
-use fints_cli_hints_words::places::{Told, told};
+use fints_cli_hints_words::places::{HintText, say};
 use fints_cli_scripts::VerifyObserver;
 use fints_rules::LAST_NUMBER;
 use fints_script::Plan;
@@ -131,7 +131,7 @@ fn write_need<W: Write>(
         Way::Begin => write!(f, "step {name}, the first,"),
         Way::Branch { from, number, .. } => {
             let from = why.step(from);
-            write!(f, "behind number {number} of step {from}, step {name}")
+            write!(f, "after number {number} of step {from}, step {name}")
         }
     }
 }
@@ -197,14 +197,14 @@ impl Display for Why<'_, '_> {
                 let name = self.step(step);
                 write!(
                     f,
-                    "step {name} is named as reached, and its messages break a rule: name it as unreached where no run sends it, or mend the script"
+                    "step {name} is named as reached, and its messages break a rule: name it as unreached where no run sends it, or fix the script"
                 )
             }
             Open::Unreleased { step } => {
                 let name = self.step(step);
                 write!(
                     f,
-                    "step {name} is named as reached, and a message behind it leaves its order unreleased (P11): name it as unreached where no run sends it, or mend the branches of the script"
+                    "step {name} is named as reached, and a message after it leaves its order unreleased (P11): name it as unreached where no run sends it, or fix the branches of the script"
                 )
             }
             _ => write_figures(f, self),
@@ -212,9 +212,9 @@ impl Display for Why<'_, '_> {
     }
 }
 
-fn why_text<'p>(alloc: Global, plan: &'p Plan<'p>, lines: &[Line], open: Open) -> Told {
+fn why_text<'p>(alloc: Global, plan: &'p Plan<'p>, lines: &[Line], open: Open) -> HintText {
     let why = Why { plan, lines, open };
-    told(alloc, format_args!("why: {why}\n"))
+    say(alloc, format_args!("why: {why}\n"))
 }
 
 /// A line that says what is open of a certificate first. None where it is closed, and where the line isn't
@@ -223,7 +223,7 @@ fn why_text<'p>(alloc: Global, plan: &'p Plan<'p>, lines: &[Line], open: Open) -
 pub struct VerifyReason {
     alloc: Global,
     wanted: bool,
-    text: Told,
+    text: HintText,
 }
 
 impl VerifyReason {
@@ -236,7 +236,7 @@ impl VerifyReason {
     }
 
     /// The line. An error where memory ran out while it was made.
-    pub fn into_text(self) -> Told {
+    pub fn into_text(self) -> HintText {
         self.text
     }
 }

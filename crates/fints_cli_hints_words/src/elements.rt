@@ -1,7 +1,7 @@
 //! What is wrong with elements.
 use crate::guessing::{Named, not_named};
 use crate::keys::must_be;
-use crate::places::{Told, names_of, numbered, text_in, told, told_at};
+use crate::places::{HintText, names_of, numbered, say, say_at, text_in};
 use crate::quoting::{Character, Quoted};
 use crate::tables::rows_of;
 use fints_script_rows::text::is_latin1;
@@ -24,7 +24,7 @@ fn bad_digit(digits: &str) -> Option<char> {
     digits.chars().find(|ch| !ch.is_digit(16))
 }
 
-fn unknown_text(alloc: Global, fields: &NamedRows<'_>, name: &str) -> Told {
+fn unknown_text(alloc: Global, fields: &NamedRows<'_>, name: &str) -> HintText {
     let names = names_of(alloc, fields.as_slice(), &["dialog"])?;
     let named = Named {
         what: "field",
@@ -35,37 +35,37 @@ fn unknown_text(alloc: Global, fields: &NamedRows<'_>, name: &str) -> Told {
 }
 
 // Why what is after `%` is no hex.
-fn digits_text(alloc: Global, digits: &str) -> Told {
+fn digits_text(alloc: Global, digits: &str) -> HintText {
     let count = digits.len();
     match bad_digit(digits) {
         Some(ch) => {
             let ch = Character(ch);
-            told(
+            say(
                 alloc,
                 format_args!(
-                    ": the character {ch} behind % is no hex digit. A text that begins with % is written \"=%..\""
+                    ": the character {ch} after % is no hex digit. A text that begins with % is written \"=%..\""
                 ),
             )
         }
-        None if count % 2 == 1 => told(
+        None if count % 2 == 1 => say(
             alloc,
-            format_args!(": behind % stands an odd number of hex digits, {count}; two make a byte"),
+            format_args!(": after % comes an odd number of hex digits, {count}; two make a byte"),
         ),
         None => Ok(None),
     }
 }
 
 /// What is wrong with a text that isn't of ISO 8859-1.
-pub fn not_latin1(alloc: Global, text: &str) -> Told {
+pub fn not_latin1(alloc: Global, text: &str) -> HintText {
     let shown = Quoted(text);
     let Some(ch) = text
         .chars()
         .find(|ch| !matches!(ch, ' '..='~' | '\u{a0}'..='\u{ff}'))
     else {
-        return told(alloc, format_args!(": the text {shown}"));
+        return say(alloc, format_args!(": the text {shown}"));
     };
     let ch = Character(ch);
-    told(
+    say(
         alloc,
         format_args!(
             ": the text {shown} has the character {ch}; a text has U+0020 to U+007E and U+00A0 to U+00FF"
@@ -73,9 +73,9 @@ pub fn not_latin1(alloc: Global, text: &str) -> Told {
     )
 }
 
-fn account_text(alloc: Global, name: &str) -> Told {
+fn account_text(alloc: Global, name: &str) -> HintText {
     let shown = Quoted(name);
-    told(
+    say(
         alloc,
         format_args!(
             ": the field {shown} is of class account; such a field is an element by itself (no array), in the segments of a step"
@@ -90,7 +90,7 @@ fn reference_slip(
     fields: &NamedRows<'_>,
     free: bool,
     name: &str,
-) -> Told {
+) -> HintText {
     match kind {
         FaultKind::NoSuchName if name != "dialog" && !fields.has(name) => {
             unknown_text(alloc, fields, name)
@@ -106,7 +106,7 @@ fn text_slip(
     fields: &NamedRows<'_>,
     free: bool,
     text: &str,
-) -> Told {
+) -> HintText {
     if let Some(name) = text.strip_prefix('$') {
         return reference_slip(alloc, kind, fields, free, name);
     }
@@ -131,7 +131,7 @@ fn item_slip(
     free: bool,
     value: &Value,
     what: &str,
-) -> Told {
+) -> HintText {
     match value {
         Value::String(text) => text_slip(alloc, kind, fields, free, text.as_str()),
         _ if kind == FaultKind::WrongKind => must_be(alloc, "", value, what),
@@ -140,9 +140,14 @@ fn item_slip(
 }
 
 // The first bad item of an array, from 1 on.
-fn array_slip(alloc: Global, kind: FaultKind, fields: &NamedRows<'_>, values: &[Value]) -> Told {
+fn array_slip(
+    alloc: Global,
+    kind: FaultKind,
+    fields: &NamedRows<'_>,
+    values: &[Value],
+) -> HintText {
     if values.is_empty() && kind == FaultKind::WrongKind {
-        return told(
+        return say(
             alloc,
             " is an empty array; an element without bytes is \"\"",
         );
@@ -150,7 +155,7 @@ fn array_slip(alloc: Global, kind: FaultKind, fields: &NamedRows<'_>, values: &[
     for (i, value) in values.iter().enumerate() {
         let found = item_slip(alloc, kind, fields, false, value, "a text")?;
         if found.is_some() {
-            return told_at(alloc, numbered(", item", i.saturating_add(1)), found);
+            return say_at(alloc, numbered(", item", i.saturating_add(1)), found);
         }
     }
     Ok(None)
@@ -162,7 +167,7 @@ fn element_slip(
     fields: &NamedRows<'_>,
     free: bool,
     value: &Value,
-) -> Told {
+) -> HintText {
     match value {
         Value::Array(values) => array_slip(alloc, kind, fields, values.as_slice()),
         _ => {
@@ -180,11 +185,11 @@ pub fn elements_slip(
     fields: &NamedRows<'_>,
     free: bool,
     value: Option<&Value>,
-) -> Told {
+) -> HintText {
     for (i, element) in rows_of(value).iter().enumerate() {
         let found = element_slip(alloc, kind, fields, free, element)?;
         if found.is_some() {
-            return told_at(alloc, numbered(", element", i.saturating_add(2)), found);
+            return say_at(alloc, numbered(", element", i.saturating_add(2)), found);
         }
     }
     Ok(None)

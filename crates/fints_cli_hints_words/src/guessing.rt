@@ -1,5 +1,5 @@
 //! Words that are meant, perhaps, and lists of the words that there are.
-use crate::places::{Told, told};
+use crate::places::{HintText, say};
 use crate::quoting::Quoted;
 use fints_syntax::Memory;
 use std::alloc::Global;
@@ -128,7 +128,7 @@ pub fn not_named<T: Display + Drop>(
     place: T,
     named: &Named<'_>,
     name: &str,
-) -> Told {
+) -> HintText {
     let Named {
         what,
         names,
@@ -136,10 +136,10 @@ pub fn not_named<T: Display + Drop>(
     } = *named;
     let guess = guess_of(alloc, names, name)?;
     if guess.near.is_some() {
-        return told(alloc, format_args!("{place}: no {what} is named {guess}"));
+        return say(alloc, format_args!("{place}: no {what} is named {guess}"));
     }
     let known = Known(names);
-    told(
+    say(
         alloc,
         format_args!("{place}: no {what} is named {guess}; {known}{remark}"),
     )

@@ -1,7 +1,7 @@
 //! Keys of tables: those that don't belong there, those that are missing, and what is at one where
 //! something else must.
 use crate::guessing::{Joined, guess_of};
-use crate::places::{Told, told};
+use crate::places::{HintText, say};
 use crate::quoting::{Quoted, Shown, misfit_of};
 use crate::tables::{is_no_array, is_no_flag, is_no_integer, is_no_list, is_no_text, is_outside};
 use fints_script_rows::names::parsed;
@@ -30,13 +30,13 @@ fn first_unknown<'a>(table: &'a Table, keys: &[&str]) -> Option<&'a str> {
 }
 
 /// A key that isn't one of these, which are those of what the table is.
-pub fn unknown_key(alloc: Global, table: &Table, keys: &[&str], whose: &str) -> Told {
+pub fn unknown_key(alloc: Global, table: &Table, keys: &[&str], whose: &str) -> HintText {
     let Some(key) = first_unknown(table, keys) else {
         return Ok(None);
     };
     let guess = guess_of(alloc, keys, key)?;
     let keys = Joined(keys);
-    told(
+    say(
         alloc,
         format_args!(": unknown key {guess}; the keys of {whose} are {keys}"),
     )
@@ -52,28 +52,28 @@ fn first_missing<'a>(table: &Table, keys: &[&'a str]) -> Option<&'a str> {
 }
 
 /// A key that is missing, of these, which are those that the table needs.
-pub fn missing_key(alloc: Global, table: &Table, keys: &[&str], whose: &str) -> Told {
+pub fn missing_key(alloc: Global, table: &Table, keys: &[&str], whose: &str) -> HintText {
     let Some(key) = first_missing(table, keys) else {
         return Ok(None);
     };
     let keys = Joined(keys);
-    told(
+    say(
         alloc,
         format_args!(": the key \"{key}\" is missing; {whose} needs {keys}"),
     )
 }
 
 /// That a value is at a place, and what must be there.
-pub fn must_be<T: Display + Drop>(alloc: Global, place: T, value: &Value, what: &str) -> Told {
+pub fn must_be<T: Display + Drop>(alloc: Global, place: T, value: &Value, what: &str) -> HintText {
     let shown = Shown(value);
-    told(
+    say(
         alloc,
         format_args!("{place} is {shown}, and must be {what}"),
     )
 }
 
 /// That a row is no table.
-pub fn no_table(alloc: Global, row: &Value) -> Told {
+pub fn no_table(alloc: Global, row: &Value) -> HintText {
     must_be(alloc, "", row, "a table")
 }
 
@@ -93,7 +93,7 @@ pub enum Form {
 
 /// A key, the form of what may be there, and the words for it.
 #[derive(Clone, Copy)]
-pub struct Wanted {
+pub struct WantedKey {
     pub key: &'static str,
     pub form: Form,
     pub what: &'static str,
@@ -120,21 +120,21 @@ fn misfits(form: Form, value: Option<&Value>) -> bool {
 }
 
 /// That an earlier row of this number has the name already.
-pub fn name_taken(alloc: Global, what: &str, number: usize, name: &str) -> Told {
+pub fn name_taken(alloc: Global, what: &str, number: usize, name: &str) -> HintText {
     let shown = Quoted(name);
-    told(
+    say(
         alloc,
         format_args!(": the name {shown} is that of {what} {number} already"),
     )
 }
 
-fn bad_name(alloc: Global, name: &str) -> Told {
+fn bad_name(alloc: Global, name: &str) -> HintText {
     let bad = name
         .chars()
         .find(|ch| !matches!(ch, 'a'..='z' | '0'..='9' | '_' | '-'));
     let shown = Quoted(name);
     let misfit = misfit_of(name, bad);
-    told(
+    say(
         alloc,
         format_args!(
             ": the name {shown} has {misfit}; a name has 1 to 40 of a to z, 0 to 9, _ and -"
@@ -142,8 +142,8 @@ fn bad_name(alloc: Global, name: &str) -> Told {
     )
 }
 
-fn wrong(alloc: Global, wanted: &Wanted, value: &Value) -> Told {
-    let Wanted { key, form, what } = *wanted;
+fn wrong(alloc: Global, wanted: &WantedKey, value: &Value) -> HintText {
+    let WantedKey { key, form, what } = *wanted;
     match (form, value) {
         (Form::Name, Value::String(name)) => bad_name(alloc, name.as_str()),
         _ => must_be(alloc, format_args!(": {key}"), value, what),
@@ -151,7 +151,7 @@ fn wrong(alloc: Global, wanted: &Wanted, value: &Value) -> Told {
 }
 
 /// The first of these keys that has another value than it may.
-pub fn wrong_value(alloc: Global, table: &Table, all: &[Wanted]) -> Told {
+pub fn wrong_value(alloc: Global, table: &Table, all: &[WantedKey]) -> HintText {
     for wanted in all {
         let value = member(table, wanted.key);
         match value {

@@ -1,7 +1,7 @@
 //! What is wrong with the listed values of a field.
 use crate::elements::not_latin1;
 use crate::keys::must_be;
-use crate::places::{Told, numbered, told, told_at};
+use crate::places::{HintText, numbered, say, say_at};
 use fints_script_fields::{MAX_LEN, MAX_VALUES};
 use fints_script_rows::FaultKind;
 use fints_script_rows::text::is_latin1;
@@ -10,19 +10,19 @@ use std::alloc::Global;
 use std::collections::BTreeMap;
 use toml::Value;
 
-fn long_text(alloc: Global, text: &str) -> Told {
+fn long_text(alloc: Global, text: &str) -> HintText {
     let count = text.chars().count();
     if count <= usize::from(MAX_LEN) {
         return Ok(None);
     }
-    told(
+    say(
         alloc,
         format_args!(" has {count} characters, and may have {MAX_LEN}"),
     )
 }
 
 // What is wrong with a text that is listed, or one of those of an account.
-fn text_slip(alloc: Global, kind: FaultKind, value: &Value) -> Told {
+fn text_slip(alloc: Global, kind: FaultKind, value: &Value) -> HintText {
     match (kind, value) {
         (FaultKind::NotLatin1, Value::String(text)) if !is_latin1(text.as_str()) => {
             not_latin1(alloc, text.as_str())
@@ -34,10 +34,10 @@ fn text_slip(alloc: Global, kind: FaultKind, value: &Value) -> Told {
     }
 }
 
-fn texts_slip(alloc: Global, kind: FaultKind, texts: &[Value]) -> Told {
+fn texts_slip(alloc: Global, kind: FaultKind, texts: &[Value]) -> HintText {
     let count = texts.len();
     if kind == FaultKind::WrongKind && (count == 0 || count > 6) {
-        return told(
+        return say(
             alloc,
             format_args!(" has {count} texts; an account has 1 to 6, the items of its element"),
         );
@@ -45,13 +45,13 @@ fn texts_slip(alloc: Global, kind: FaultKind, texts: &[Value]) -> Told {
     for (i, value) in texts.iter().enumerate() {
         let found = text_slip(alloc, kind, value)?;
         if found.is_some() {
-            return told_at(alloc, numbered(", text", i.saturating_add(1)), found);
+            return say_at(alloc, numbered(", text", i.saturating_add(1)), found);
         }
     }
     Ok(None)
 }
 
-fn account_slip(alloc: Global, kind: FaultKind, value: &Value) -> Told {
+fn account_slip(alloc: Global, kind: FaultKind, value: &Value) -> HintText {
     match value {
         Value::Array(texts) => texts_slip(alloc, kind, texts.as_slice()),
         _ if kind == FaultKind::WrongKind => must_be(alloc, "", value, "an array of 1 to 6 texts"),
@@ -59,7 +59,7 @@ fn account_slip(alloc: Global, kind: FaultKind, value: &Value) -> Told {
     }
 }
 
-fn entry_slip(alloc: Global, kind: FaultKind, accounts: bool, value: &Value) -> Told {
+fn entry_slip(alloc: Global, kind: FaultKind, accounts: bool, value: &Value) -> HintText {
     if accounts {
         account_slip(alloc, kind, value)
     } else {
@@ -67,11 +67,11 @@ fn entry_slip(alloc: Global, kind: FaultKind, accounts: bool, value: &Value) -> 
     }
 }
 
-fn first_slip(alloc: Global, kind: FaultKind, accounts: bool, values: &[Value]) -> Told {
+fn first_slip(alloc: Global, kind: FaultKind, accounts: bool, values: &[Value]) -> HintText {
     for (i, value) in values.iter().enumerate() {
         let found = entry_slip(alloc, kind, accounts, value)?;
         if found.is_some() {
-            return told_at(
+            return say_at(
                 alloc,
                 numbered(", values, entry", i.saturating_add(1)),
                 found,
@@ -98,13 +98,13 @@ fn key_of(alloc: Global, value: &Value) -> Result<String, Memory> {
     Ok(key)
 }
 
-fn twice_text(alloc: Global, values: &[Value]) -> Told {
+fn twice_text(alloc: Global, values: &[Value]) -> HintText {
     let mut seen: BTreeMap<String, usize> = BTreeMap::new(alloc);
     for (i, value) in values.iter().enumerate() {
         let entry = i.saturating_add(1);
         let key = key_of(alloc, value)?;
         if let Some(first) = seen.insert(key, entry)? {
-            return told(
+            return say(
                 alloc,
                 format_args!(", values, entry {entry} is the same as entry {first}"),
             );
@@ -113,10 +113,10 @@ fn twice_text(alloc: Global, values: &[Value]) -> Told {
     Ok(None)
 }
 
-fn limit_text(alloc: Global, accounts: bool, values: &[Value]) -> Told {
+fn limit_text(alloc: Global, accounts: bool, values: &[Value]) -> HintText {
     let count = values.len();
     if count == 0 || count > MAX_VALUES {
-        return told(
+        return say(
             alloc,
             format_args!(": values has {count} entries, and must have 1 to {MAX_VALUES}"),
         );
@@ -125,7 +125,12 @@ fn limit_text(alloc: Global, accounts: bool, values: &[Value]) -> Told {
 }
 
 /// The first listed value that has a fault of this kind; of class account (`accounts`) or not.
-pub fn values_slip(alloc: Global, kind: FaultKind, accounts: bool, value: Option<&Value>) -> Told {
+pub fn values_slip(
+    alloc: Global,
+    kind: FaultKind,
+    accounts: bool,
+    value: Option<&Value>,
+) -> HintText {
     let Some(Value::Array(values)) = value else {
         return Ok(None);
     };

@@ -9,7 +9,7 @@ use toml::Value;
 
 /// What is said of an input, if anything; where it is a part of a hint, it begins with the sign that
 /// follows its place.
-pub type Told = Result<Option<String>, Memory>;
+pub type HintText = Result<Option<String>, Memory>;
 
 /// A text, as it is shown.
 pub fn written<T: Display + Drop>(alloc: Global, text: T) -> Result<String, Memory> {
@@ -17,14 +17,14 @@ pub fn written<T: Display + Drop>(alloc: Global, text: T) -> Result<String, Memo
 }
 
 /// That there is something to say: this text.
-pub fn told<T: Display + Drop>(alloc: Global, text: T) -> Told {
+pub fn say<T: Display + Drop>(alloc: Global, text: T) -> HintText {
     Ok(Some(text.to_string(alloc)?))
 }
 
 /// What is said, after its place.
-pub fn told_at<T: Display + Drop>(alloc: Global, place: T, found: Option<String>) -> Told {
+pub fn say_at<T: Display + Drop>(alloc: Global, place: T, found: Option<String>) -> HintText {
     match found {
-        Some(text) => told(alloc, format_args!("{place}{text}")),
+        Some(text) => say(alloc, format_args!("{place}{text}")),
         None => Ok(None),
     }
 }

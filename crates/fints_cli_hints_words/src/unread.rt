@@ -1,5 +1,5 @@
 //! Why bytes are no TOML.
-use crate::places::{Told, column_at, line_at, told};
+use crate::places::{HintText, column_at, line_at, say};
 use crate::quoting::Quoted;
 use fints_syntax_texts::MAX_TEXT;
 use std::alloc::Global;
@@ -8,17 +8,17 @@ use std::fmt::{Display, Formatter, Write};
 use toml::de::Error;
 
 /// That a text is too long.
-pub fn too_long(alloc: Global, text: &[u8]) -> Told {
+pub fn too_long(alloc: Global, text: &[u8]) -> HintText {
     let len = text.len();
-    told(
+    say(
         alloc,
         format_args!("longer than {MAX_TEXT} bytes: it has {len}"),
     )
 }
 
-fn not_utf8(alloc: Global, text: &[u8], offset: usize) -> Told {
+fn not_utf8(alloc: Global, text: &[u8], offset: usize) -> HintText {
     let line = line_at(text, offset);
-    told(
+    say(
         alloc,
         format_args!("not UTF-8: the first bad byte is at offset {offset}, in line {line}"),
     )
@@ -58,21 +58,21 @@ fn there_at(text: &str, offset: usize) -> There<'_> {
     let rest = rest_of_line(text, offset);
     if may_hold_secret(rest) || may_hold_secret(line_of(text, offset)) {
         return There {
-            words: "there stands what may hold a PIN or a TAN, as a message does",
+            words: "found what may hold a PIN or a TAN, as a message does",
             text: "",
         };
     }
     match (rest, before(text, offset)) {
         ("", "") => There {
-            words: "there the line ends",
+            words: "found the end of the line",
             text: "",
         },
         ("", line) => There {
-            words: "there ends the line",
+            words: "found the end of",
             text: line,
         },
         (rest, _) => There {
-            words: "there stands",
+            words: "found",
             text: rest,
         },
     }
@@ -108,7 +108,7 @@ fn advice(text: &str, offset: usize) -> &'static str {
     ""
 }
 
-fn refusal(alloc: Global, text: &str, error: &Error) -> Told {
+fn refusal(alloc: Global, text: &str, error: &Error) -> HintText {
     let Some(span) = error.span() else {
         return Ok(None);
     };
@@ -117,13 +117,13 @@ fn refusal(alloc: Global, text: &str, error: &Error) -> Told {
     let column = column_at(text.as_bytes(), span.start);
     let why = error.message();
     let there = there_at(text, span.start);
-    told(
+    say(
         alloc,
         format_args!("line {line}, column {column}: {why}; {there}{advice}"),
     )
 }
 
-fn no_toml(alloc: Global, text: &str) -> Told {
+fn no_toml(alloc: Global, text: &str) -> HintText {
     match toml::table_from_str(alloc, text) {
         Ok(_) => Ok(None),
         Err(error) => refusal(alloc, text, &error),
@@ -131,7 +131,7 @@ fn no_toml(alloc: Global, text: &str) -> Told {
 }
 
 /// Why bytes are no TOML: where they stop, and for what cause.
-pub fn why_no_toml(alloc: Global, text: &[u8]) -> Told {
+pub fn why_no_toml(alloc: Global, text: &[u8]) -> HintText {
     if text.len() > MAX_TEXT {
         return too_long(alloc, text);
     }

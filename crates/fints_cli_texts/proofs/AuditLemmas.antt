@@ -8,7 +8,7 @@ use Rattle.fints_rules_permissions.specs.declared.orders.OrderRow.{OrderRow}
 use Rattle.fints_rules_permissions.specs.declared.orders.TableFault.{TableFault}
 use Rattle.fints_rules_permissions.specs.Orders.{DenotesTable, IsTableFault}
 use Rattle.fints_rules_dialogues.specs.declared.auditing.Audited.{Audited}
-use Rattle.fints_rules_dialogues.specs.declared.messages.Sent.{Sent}
+use Rattle.fints_rules_dialogues.specs.declared.messages.RecordedMessage.{RecordedMessage}
 use Rattle.fints_rules_dialogues.specs.declared.fault.DialogueFault.{DialogueFault}
 use Rattle.fints_rules_dialogues.specs.declared.fault.DialogueFault.TheVariants as dialogues
 use Rattle.fints_rules_dialogues.specs.declared.reading.Exchange.{Exchange}
@@ -197,7 +197,7 @@ pub file_first : (dialogue : List ℕ) (f : DialogueFault) → IsMemoryOrRefusal
 file_first dialogue f (inl e) = inl e
 file_first dialogue f (inr p) = inr (inl p)
 
-pub turns_last : (log : LogValue) (messages : List Sent) (f : DialogueFault) → AreSent log messages
+pub turns_last : (log : LogValue) (messages : List RecordedMessage) (f : DialogueFault) → AreSent log messages
     → IsMemoryOrRefusal (IsTurnFault messages) f → IsMemoryOrRefusal (IsTurnFaultOf log) f
 turns_last log messages f sent (inl e) = inl e
 turns_last log messages f sent (inr p) = inr (messages, sent, p)

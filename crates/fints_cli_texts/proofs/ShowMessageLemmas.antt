@@ -16,8 +16,8 @@ use Rattle.fints_syntax.proofs.Readings.{segments-more}
 use Rattle.fints_params.specs.Sealed.{is_sealed}
 use Rattle.fints_rules_messages.specs.Messages.{MessageView, IsForm, IsInner, IsFirst, IsLast, IsSealHead, IsEnvelope, Seals, IsMessage}
 use Rattle.fints_rules_messages.specs.Parts.{part_of}
-use Rattle.fints_rules_messages.specs.declared.part.Part.{Part}
-use Rattle.fints_rules_messages.specs.declared.part.Part.TheVariants.{Opener, Body, Ender, Other}
+use Rattle.fints_rules_messages.specs.declared.part.MessagePart.{MessagePart}
+use Rattle.fints_rules_messages.specs.declared.part.MessagePart.TheVariants.{Opener, Body, Ender, Other}
 use Rattle.fints_rules_messages.proofs.Texts.{all_append}
 use Rattle.fints_rules_messages.specs.declared.message.JudgeFault.{JudgeFault}
 use Rattle.fints_rules_messages.specs.declared.message.JudgeFault.TheVariants as refusals
@@ -44,13 +44,13 @@ last_unsealed number s h = ap (λ id. sealed_by id s.head.version) (kind_is (cod
 seal_head_unsealed : (s : OwnedSegment) → IsSealHead s → is_sealed s ≡ false
 seal_head_unsealed s h = ap (λ id. sealed_by id s.head.version) (kind_is (codes "HNVSK") 3 s h.kind)
 
-abbrev part_by : List ℕ → ℕ → Part
+abbrev part_by : List ℕ → ℕ → MessagePart
 part_by id version = part_of (record { head = record { id = id; number = 0; version = version; reference = None }; elements = [] })
 
 sealed_other : (s : OwnedSegment) → is_sealed s ≡ true → part_of s ≡ Other
 sealed_other s h = ap (λ id. part_by id s.head.version) (kind_is (codes "HNVSD") 1 s h)
 
-no_other : (s : OwnedSegment) (p : Part) → (p ≡ Other → ⊥) → part_of s ≡ p → is_sealed s ≡ false
+no_other : (s : OwnedSegment) (p : MessagePart) → (p ≡ Other → ⊥) → part_of s ≡ p → is_sealed s ≡ false
 no_other s p other h = elim (is_sealed s) as (λ b. is_sealed s ≡ b → b ≡ false) [
   | true ↦ λ e. absurd (other (sym h ∙ sealed_other s e))
   | false ↦ λ e. refl
@@ -59,7 +59,7 @@ no_other s p other h = elim (is_sealed s) as (λ b. is_sealed s ≡ b → b ≡ 
 abbrev Unsealed : OwnedSegment → Type 0
 Unsealed s = is_sealed s ≡ false
 
-part_unsealed : (p : Part) → (p ≡ Other → ⊥) → (ss : List OwnedSegment) → AllByRecursion (λ s. part_of s ≡ p) ss
+part_unsealed : (p : MessagePart) → (p ≡ Other → ⊥) → (ss : List OwnedSegment) → AllByRecursion (λ s. part_of s ≡ p) ss
     → AllByRecursion Unsealed ss
 part_unsealed p other [] h = tt
 part_unsealed p other (s ∷ ss) h = (no_other s p other h.0, part_unsealed p other ss h.1)

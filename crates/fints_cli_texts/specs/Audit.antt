@@ -10,7 +10,7 @@ use Rattle.fints_rules_permissions.specs.Orders.{DenotesTable}
 use Rattle.fints_rules_permissions.specs.Permits.{Granted}
 use Rattle.fints_rules.specs.declared.rule.Broken.{Broken}
 use Rattle.fints_rules_dialogues.specs.declared.auditing.Audited.{Audited}
-use Rattle.fints_rules_dialogues.specs.declared.messages.Sent.{Sent}
+use Rattle.fints_rules_dialogues.specs.declared.messages.RecordedMessage.{RecordedMessage}
 use Rattle.fints_rules_dialogues.specs.declared.fault.DialogueFault.{DialogueFault}
 use Rattle.fints_rules_dialogues.specs.declared.reading.Exchange.{Exchange}
 use Rattle.fints_rules_logs.specs.Kept.{IsLog, LogValue}
@@ -118,7 +118,7 @@ IsOwnAuditRefusal orders dialogue _ = ⊥
 -- ---- of private contracts only
 
 -- the status and the text name the rules that the messages of a recording break
-abbrev pub IsRecordingAudit : Rows → List OrderRow → List Sent → ℕ → List ℕ → Type 0
+abbrev pub IsRecordingAudit : Rows → List OrderRow → List RecordedMessage → ℕ → List ℕ → Type 0
 IsRecordingAudit rows table messages status text =
     (exchanges : List Exchange) × AreInTurn messages exchanges []
     × IsAuditBy (granted_by rows table exchanges) exchanges status text

@@ -175,7 +175,7 @@ pub const COMMANDS: [Described; 12] = [
     Described {
         name: "verify",
         command: Command::Verify,
-        about: "Tells whether a certificate of a script is closed",
+        about: "Says whether a certificate of a script is closed",
         options: &[PARAMS, ORDERS, SCRIPT, CERTIFICATE],
     },
     Described {

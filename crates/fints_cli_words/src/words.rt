@@ -229,7 +229,7 @@ pub fn read_words<'a>(alloc: Global, words: &'a [&'a str]) -> Asked<'a>
     if standard_inputs(&request) > 1 {
         return usage(
             alloc,
-            "error: standard input (-) can be the file of one option alone\n",
+            "error: standard input (-) can be the file of only one option\n",
         );
     }
     Asked::Run(request)

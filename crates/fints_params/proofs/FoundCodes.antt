@@ -11,7 +11,7 @@ use Rattle.fints_syntax_segments.specs.declared.item.OwnedSegment.{OwnedSegment}
 use Rattle.fints_params.specs.declared.fault.ParamFault.{ParamFault}
 use Rattle.fints_params.specs.declared.fault.ParamFault.TheVariants.{Memory, Syntax, BadElement, TwoBankParameters, NoBankParameters, NoPinParameters}
 use Rattle.fints_params.specs.Feedback.{code_in, is_bad_code, is_feedback, codes_of, codes_in, bad_code, feedback_fault}
-use Rattle.fints_params.specs.declared.feedback.Found.{Found}
+use Rattle.fints_params.specs.declared.feedback.FoundCodes.{FoundCodes}
 use Rattle.fints_params.specs.Glancing.{IsGlanced}
 use Rattle.fints_params.specs.Sealed.{is_sealed}
 use Rattle.fints_params.specs.Faults.{IsBad, IsMemoryOr}
@@ -123,9 +123,9 @@ codes_unread s old e =
     let none : codes_in (s ∷ []) ≡ [] = rw e refl in
     codes_more s old old (rw e refl) (sym (append-nil old) ∙ ap (λ xs. old ++ xs) (sym none))
 
-pub found_glanced : (s : OwnedSegment) (old : Found) (closed : Bool)
+pub found_glanced : (s : OwnedSegment) (old : FoundCodes) (closed : Bool)
     → closed ≡ is_sealed s → is_feedback s ≡ false
-    → IsGlanced {S = Found} (λ seen found. CodesSoFar seen found.codes.items) old old s (not closed)
+    → IsGlanced {S = FoundCodes} (λ seen found. CodesSoFar seen found.codes.items) old old s (not closed)
 found_glanced s old true e other = refl
 found_glanced s old false e other = (sym e, codes_unread s old.codes.items other)
 

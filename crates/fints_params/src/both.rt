@@ -9,7 +9,7 @@ ghost use Rattle.fints_params.specs.Taken.{IsBothSoFar};
 use crate::capture::read_to_end;
 use crate::code::Code;
 use crate::fault::{ParamFault, is_memory};
-use crate::feedback::{Found, is_feedback_view, none_found};
+use crate::feedback::{FoundCodes, is_feedback_view, none_found};
 use crate::gathered::Gathered;
 use crate::gathering::no_rows;
 use crate::opening::SegmentTaker;
@@ -29,7 +29,7 @@ pub struct ParamsAndCodes {
 #[derive(Drop)]
 pub struct Both {
     pub rows: Gathered,
-    pub found: Found,
+    pub found: FoundCodes,
     pub refused: Option<ParamFault>,
 }
 

@@ -15,15 +15,15 @@ use std::alloc::{AllocError, Global};
 
 /// The codes so far.
 #[derive(Drop)]
-pub struct Found {
+pub struct FoundCodes {
     pub codes: Vec<Code>,
 }
 
 /// The codes of no segment.
-pub fn none_found(alloc: Global) -> Found
+pub fn none_found(alloc: Global) -> FoundCodes
     ensures { CodesSoFar [] result.codes.items }
 {
-    Found {
+    FoundCodes {
         codes: Vec::new(alloc),
     }
 }
@@ -71,7 +71,7 @@ fn take_codes(segment: &OwnedSegment, codes: &mut Vec<Code>) -> Result<(), Param
     read_codes(segment, codes)
 }
 
-impl SegmentTaker for Found {
+impl SegmentTaker for FoundCodes {
     ghost rule = { feedback_fault };
 
     ghost good = { λ seen found. CodesSoFar seen found.codes.items };

@@ -6,7 +6,7 @@ use Rattle.fints_rules_permissions.specs.Permits.{Granted}
 use Rattle.fints_rules.specs.declared.rule.Broken.{Broken}
 use Rattle.fints_rules.proofs.Unbroken.{permitted, permitted_after}
 use Rattle.fints_rules_dialogues.specs.declared.auditing.Audited.{Audited}
-use Rattle.fints_rules_dialogues.specs.declared.messages.Sent.{Sent}
+use Rattle.fints_rules_dialogues.specs.declared.messages.RecordedMessage.{RecordedMessage}
 use Rattle.fints_rules_dialogues.specs.declared.fault.DialogueFault.{DialogueFault}
 use Rattle.fints_rules_dialogues.specs.declared.reading.Exchange.{Exchange}
 use Rattle.fints_rules_dialogues.specs.Dialogues.{last_of, sents_in, IsExchange, IsExchangeFault, IsMemoryOrRefusal, IsTurnFault, BeginsWithOne}
@@ -27,7 +27,7 @@ audited_more (y ∷ gs) before (x ∷ es) (b ∷ more) g e a (is, h) next =
 
 -- the exchanges so far, whose messages are judged, and the last of them
 pub record AreAuditedSoFar
-    (granted : Granted) (messages : List Sent) (at : ℕ) (before : Option Exchange) (audited : List Audited)
+    (granted : Granted) (messages : List RecordedMessage) (at : ℕ) (before : Option Exchange) (audited : List Audited)
     : Type 0 where
   pub exchanges : List Exchange
   pub read : AreReadSoFar messages at exchanges
@@ -35,7 +35,7 @@ pub record AreAuditedSoFar
   pub before_is : before ≡ last_of None exchanges
   pub last : IsExchangeOrNone before
 
-pub one_audited : (granted : Granted) (messages : List Sent) (at : ℕ) (before : Option Exchange)
+pub one_audited : (granted : Granted) (messages : List RecordedMessage) (at : ℕ) (before : Option Exchange)
     (audited : List Audited) (e : Exchange) (a : Audited)
     → AreAuditedSoFar granted messages at before audited → BeginsWithOne before (drop at messages) e
     → (IsExchangeOrNone before → IsExchange e → IsAuditedNext granted before e a)
@@ -53,13 +53,13 @@ one_audited granted messages at before audited e a h begins next = record {
   last = begins.1.exchange;
 }
 
-pub all_audited : (granted : Granted) (messages : List Sent) (at : ℕ) (before : Option Exchange)
+pub all_audited : (granted : Granted) (messages : List RecordedMessage) (at : ℕ) (before : Option Exchange)
     (audited : List Audited) → AreAuditedSoFar granted messages at before audited → length messages ≤ at
     → AreAuditedInTurn granted messages audited
 all_audited granted messages at before audited h le =
     (h.exchanges, all_read messages at h.exchanges h.read le, h.audited_are)
 
-pub audit_refused : (granted : Granted) (messages : List Sent) (at : ℕ) (before : Option Exchange)
+pub audit_refused : (granted : Granted) (messages : List RecordedMessage) (at : ℕ) (before : Option Exchange)
     (audited : List Audited) (f : DialogueFault) → AreAuditedSoFar granted messages at before audited
     → IsMemoryOrRefusal (IsExchangeFault before (drop at messages)) f → IsMemoryOrRefusal (IsTurnFault messages) f
 audit_refused granted messages at before audited f h refused =

@@ -17,7 +17,7 @@ use Rattle.fints_params.proofs.OneMeaning.{no_params_at_fault, one_param_fault, 
 use Rattle.fints_rules_messages.specs.Messages.{MessageView}
 use Rattle.fints_rules_permissions.specs.Permits.{Granted}
 use Rattle.fints_rules_permissions.specs.declared.orders.OrderRow.{OrderRow}
-use Rattle.fints_rules_dialogues.specs.declared.messages.Sent.{Sent}
+use Rattle.fints_rules_dialogues.specs.declared.messages.RecordedMessage.{RecordedMessage}
 use Rattle.fints_rules_dialogues.specs.declared.fault.DialogueFault.{DialogueFault}
 use Rattle.fints_rules_dialogues.specs.declared.fault.DialogueFault.TheVariants as fault
 use Rattle.fints_rules_dialogues.specs.declared.parties.Party.{Party}
@@ -84,7 +84,7 @@ told_not_refused capture None f (inr lack) refused =
     not_lack capture params.NoPinParameters f refl
     (one_param_fault capture params.NoPinParameters f lack (inl refused)) refused
 
-capture_told : (m : Sent) (bank : Option BankRows) (f : DialogueFault) → TellsBank m.bytes.now bank
+capture_told : (m : RecordedMessage) (bank : Option BankRows) (f : DialogueFault) → TellsBank m.bytes.now bank
     → IsCaptureFault m f → ⊥
 capture_told m bank (fault.Answer start f) h i = told_not_refused m.bytes.now bank f h i.0
 capture_told m bank fault.Memory h i = i

@@ -3,7 +3,7 @@ use Rattle.std.proofs.Common.{◌≡◌, ℕ, List, map, refl, ap, sym, ◌∙�
 use Rattle.fints_rules_logs.specs.Kept.{IsLog, LogValue}
 use Rattle.fints_rules_logs.specs.declared.fault.LogFault.TheVariants as log
 use Rattle.fints_rules_logs.proofs.LogLaws.{no_log_at_fault, one_log, one_log_fault}
-use Rattle.fints_rules_dialogues.specs.declared.messages.Sent.{Sent}
+use Rattle.fints_rules_dialogues.specs.declared.messages.RecordedMessage.{RecordedMessage}
 use Rattle.fints_rules_dialogues.specs.declared.fault.DialogueFault.{DialogueFault}
 use Rattle.fints_rules_dialogues.specs.declared.fault.DialogueFault.TheVariants as fault
 use Rattle.fints_rules_dialogues.specs.Dialogues.{AreSent, IsFileFault}
@@ -11,7 +11,7 @@ use Rattle.fints_rules_dialogues.specs.Laws.{NoDialogueAtFault, OneDialogue, One
 use Rattle.fints_rules_dialogues.proofs.OneTurn.{AllSame, all_same, no_turn_at_fault, one_turn, one_turn_fault}
 
 -- two lists of the messages of one log are at the same places, with the same bytes
-same_messages : (one other : LogValue) (a b : List Sent) → one ≡ other → AreSent one a → AreSent other b
+same_messages : (one other : LogValue) (a b : List RecordedMessage) → one ≡ other → AreSent one a → AreSent other b
     → AllSame a b
 same_messages one other a b e h g =
     all_same a b (h.0 ∙ ap (λ l. map (λ f. f.start) l.kept) e ∙ sym g.0)

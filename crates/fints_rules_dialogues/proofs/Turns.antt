@@ -8,7 +8,7 @@ use Rattle.fints_params.specs.declared.fault.ParamFault.{ParamFault}
 use Rattle.fints_params.specs.declared.fault.ParamFault.TheVariants as params
 use Rattle.fints_params.specs.Captures.{IsCodeFault}
 use Rattle.fints_params.specs.Faults.{IsMemoryOr as IsReadFault}
-use Rattle.fints_rules_dialogues.specs.declared.messages.Sent.{Sent}
+use Rattle.fints_rules_dialogues.specs.declared.messages.RecordedMessage.{RecordedMessage}
 use Rattle.fints_rules_dialogues.specs.declared.fault.DialogueFault.{DialogueFault}
 use Rattle.fints_rules_dialogues.specs.declared.fault.DialogueFault.TheVariants as fault
 use Rattle.fints_rules_dialogues.specs.declared.reading.Answer.{Answer}
@@ -21,7 +21,7 @@ all_drop P zero xs h = h
 all_drop P (suc n) [] h = tt
 all_drop P (suc n) (x ∷ xs) h = all_drop P n xs h.1
 
-turn_more : (before : Option Exchange) (messages : List Sent) (es : List Exchange) (e : Exchange) (rest : List Sent)
+turn_more : (before : Option Exchange) (messages : List RecordedMessage) (es : List Exchange) (e : Exchange) (rest : List RecordedMessage)
     → AreInTurnAfter before messages es rest → (b : BeginsWithOne (last_of before es) rest e)
     → AreInTurnAfter before messages (es ++ e ∷ []) b.0
 turn_more before messages [] e rest h (left, begins) =
@@ -65,13 +65,13 @@ pub drop_here : {X : Type 0} (xs : List X) (i : ℕ) (x : X) → i < length xs �
 drop_here xs i x lt is = drop_more xs i x lt ∙ ap (λ y. y ∷ drop (i + 1) xs) (sym is)
 
 -- the first of the messages, and those after it
-pub first_of_all : (messages : List Sent) (d : Sent) (rest : List Sent) → 0 < length messages
+pub first_of_all : (messages : List RecordedMessage) (d : RecordedMessage) (rest : List RecordedMessage) → 0 < length messages
     → rest ≡ drop 1 messages → messages ≡ slice_index_or messages 0 d ∷ rest
 first_of_all [] d rest some is = absurd (omega (arith, some))
 first_of_all (m ∷ ms) d rest some is = ap (λ xs. m ∷ xs) (sym is)
 
 -- a message of the client, and what is known of the one after it, begin the messages as an exchange
-pub begins_one : (before : Option Exchange) (messages : List Sent) (sent : Sent) (rest : List Sent)
+pub begins_one : (before : Option Exchange) (messages : List RecordedMessage) (sent : RecordedMessage) (rest : List RecordedMessage)
     (message : MessageView) (answer : Option Answer) (begins : Bool) → messages ≡ sent ∷ rest
     → IsClientsNext before sent.bytes.now message → IsAnsweredBy rest answer
     → begins ≡ begins_after before message
@@ -103,17 +103,17 @@ begins_one before messages sent (m ∷ ms) message (Some a) begins is next by sa
     exchange = ((message, next.0, next.1), next.0, by.0);
     begins = same;
     follows = next.2;
-    split = is ∙ ap (λ (x : Sent). sent ∷ x ∷ ms) (sym by.1);
+    split = is ∙ ap (λ (x : RecordedMessage). sent ∷ x ∷ ms) (sym by.1);
     unanswered = λ e. absurd (cc);
   },
 )
 
 -- the exchanges so far, and where the rest of the messages begins
-pub record AreReadSoFar (messages : List Sent) (at : ℕ) (exchanges : List Exchange) : Type 0 where
+pub record AreReadSoFar (messages : List RecordedMessage) (at : ℕ) (exchanges : List Exchange) : Type 0 where
   pub in_turn : AreInTurn messages exchanges (drop at messages)
   pub within : at ≤ length messages
 
-pub one_read : (messages : List Sent) (at : ℕ) (es : List Exchange) (e : Exchange)
+pub one_read : (messages : List RecordedMessage) (at : ℕ) (es : List Exchange) (e : Exchange)
     → AreReadSoFar messages at es → BeginsWithOne (last_of None es) (drop at messages) e
     → AreReadSoFar messages (at + length (sents_in e)) (es ++ e ∷ [])
 one_read messages at es e h (left, begins) =
@@ -125,26 +125,26 @@ one_read messages at es e h (left, begins) =
       within = omega (arith, h.within, ap length begins.split, length-append (sents_in e) left, length-drop at messages);
     }
 
-pub all_read : (messages : List Sent) (at : ℕ) (es : List Exchange) → AreReadSoFar messages at es
+pub all_read : (messages : List RecordedMessage) (at : ℕ) (es : List Exchange) → AreReadSoFar messages at es
     → length messages ≤ at → AreInTurn messages es []
 all_read messages at es h le = subst (AreInTurn messages es) (drop_all at messages le) h.in_turn
 
 -- what refuses the exchange where the rest of the messages begins
-pub turn_refused : (messages : List Sent) (at : ℕ) (es : List Exchange) (f : DialogueFault)
+pub turn_refused : (messages : List RecordedMessage) (at : ℕ) (es : List Exchange) (f : DialogueFault)
     → AreReadSoFar messages at es → IsMemoryOrRefusal (IsExchangeFault (last_of None es) (drop at messages)) f
     → IsMemoryOrRefusal (IsTurnFault messages) f
 turn_refused messages at es f h (inl memory) = inl memory
 turn_refused messages at es f h (inr refused) = inr (es, drop at messages, h.in_turn, refused)
 
 -- the exchanges of a dialogue are such
-pub each_exchange : (before : Option Exchange) (messages : List Sent) (es : List Exchange) (rest : List Sent)
+pub each_exchange : (before : Option Exchange) (messages : List RecordedMessage) (es : List Exchange) (rest : List RecordedMessage)
     → AreInTurnAfter before messages es rest → AllByRecursion IsExchange es
 each_exchange before messages [] rest h = tt
 each_exchange before messages (e ∷ es) rest (left, begins, h) =
     (begins.exchange, each_exchange (Some e) left es rest h)
 
 -- an answer whose feedback is refused, other than because memory ran out
-pub answer_refused : (m : Sent) (f : ParamFault) → IsReadFault (IsCodeFault m.bytes.now) f
+pub answer_refused : (m : RecordedMessage) (f : ParamFault) → IsReadFault (IsCodeFault m.bytes.now) f
     → (f ≡ params.Memory → ⊥) → IsMemoryOrRefusal (IsAnswerFault (m ∷ [])) (fault.Answer m.start f)
 answer_refused m f (inl memory) other = absurd (other memory)
 answer_refused m f (inr refused) other = inr (refused, refl)

@@ -8,7 +8,7 @@ use Rattle.fints_rules_permissions.specs.declared.orders.OrderRow.{OrderRow}
 use Rattle.fints_rules_dialogues.specs.declared.auditing.Audited.{Audited}
 use Rattle.fints_rules_dialogues.specs.OwnParams.{GrantsEach}
 use Rattle.fints_rules_dialogues.specs.Dialogues.{AreInTurn, IsExchange}
-use Rattle.fints_rules_dialogues.specs.declared.messages.Sent.{Sent}
+use Rattle.fints_rules_dialogues.specs.declared.messages.RecordedMessage.{RecordedMessage}
 use Rattle.fints_rules_dialogues.specs.declared.reading.Answer.{Answer}
 use Rattle.fints_rules_dialogues.specs.declared.reading.Exchange.{Exchange}
 
@@ -68,7 +68,7 @@ abbrev pub ArePermitted : List Granted → List Exchange → Type 0
 ArePermitted granted exchanges = ArePermittedNext granted None exchanges
 
 -- the messages are those of a recording, each of the client's with the rules that it breaks
-abbrev pub AreAuditedInTurn : Granted → List Sent → List Audited → Type 0
+abbrev pub AreAuditedInTurn : Granted → List RecordedMessage → List Audited → Type 0
 AreAuditedInTurn granted messages audited =
     (exchanges : List Exchange) × AreInTurn messages exchanges []
     × AreAudited (same_for granted exchanges) exchanges audited

@@ -9,7 +9,7 @@ use Rattle.fints_params.specs.Captures.{IsCodesOf, IsCodeFault}
 use Rattle.fints_rules_logs.specs.Kept.{IsLog, IsLogFault, LogValue}
 use Rattle.fints_rules_logs.specs.declared.fault.LogFault.TheVariants as log
 use Rattle.fints_rules_messages.specs.Messages.{MessageView, IsMessage, CeasesAt}
-use Rattle.fints_rules_dialogues.specs.declared.messages.Sent.{Sent}
+use Rattle.fints_rules_dialogues.specs.declared.messages.RecordedMessage.{RecordedMessage}
 use Rattle.fints_rules_dialogues.specs.declared.fault.DialogueFault.{DialogueFault}
 use Rattle.fints_rules_dialogues.specs.declared.fault.DialogueFault.TheVariants as fault
 use Rattle.fints_rules_dialogues.specs.declared.reading.Answer.{Answer}
@@ -18,7 +18,7 @@ use Rattle.fints_rules_dialogues.specs.declared.reading.Exchange.{Exchange}
 -- ---- the messages of a file
 
 -- these are the messages of a log: at the same offsets, with the same bytes
-abbrev pub AreSent : LogValue → List Sent → Type 0
+abbrev pub AreSent : LogValue → List RecordedMessage → Type 0
 AreSent log messages =
     (map (λ m. m.start) messages ≡ map (λ f. f.start) log.kept)
     × (map (λ m. m.bytes.now) messages ≡ map (λ f. f.bytes) log.kept)
@@ -76,21 +76,21 @@ IsExchange e = IsFromClient e.sent.bytes.now × IsMessage e.sent.bytes.now e.mes
 
 -- ---- in turn
 
-abbrev pub sent_in : Option Answer → List Sent
+abbrev pub sent_in : Option Answer → List RecordedMessage
 sent_in None = []
 sent_in (Some a) = a.sent ∷ []
 
 -- the messages of an exchange
-abbrev pub sents_in : Exchange → List Sent
+abbrev pub sents_in : Exchange → List RecordedMessage
 sents_in e = e.sent ∷ sent_in e.answer
 
 -- the first of the messages, if there is one, is no answer: it has no code
-abbrev pub NoneAnswers : List Sent → Type 0
+abbrev pub NoneAnswers : List RecordedMessage → Type 0
 NoneAnswers [] = Unit {0}
 NoneAnswers (m ∷ ms) = IsCodesOf m.bytes.now []
 
 -- after that exchange, the messages begin with this one, and then there is the rest
-pub record BeginsWith (before : Option Exchange) (messages : List Sent) (e : Exchange) (rest : List Sent)
+pub record BeginsWith (before : Option Exchange) (messages : List RecordedMessage) (e : Exchange) (rest : List RecordedMessage)
     : Type 0 where
   pub exchange : IsExchange e
   pub begins : e.begins ≡ begins_after before e.message
@@ -99,18 +99,18 @@ pub record BeginsWith (before : Option Exchange) (messages : List Sent) (e : Exc
   pub unanswered : e.answer ≡ None → NoneAnswers rest
 
 -- after that exchange, they begin with these exchanges, and then there are more
-abbrev pub AreInTurnAfter : Option Exchange → List Sent → List Exchange → List Sent → Type 0
+abbrev pub AreInTurnAfter : Option Exchange → List RecordedMessage → List Exchange → List RecordedMessage → Type 0
 AreInTurnAfter before messages [] more = messages ≡ more
 AreInTurnAfter before messages (e ∷ es) more =
-    (rest : List Sent) × BeginsWith before messages e rest × AreInTurnAfter (Some e) rest es more
+    (rest : List RecordedMessage) × BeginsWith before messages e rest × AreInTurnAfter (Some e) rest es more
 
 -- they begin with these exchanges, and then there are more
-abbrev pub AreInTurn : List Sent → List Exchange → List Sent → Type 0
+abbrev pub AreInTurn : List RecordedMessage → List Exchange → List RecordedMessage → Type 0
 AreInTurn messages exchanges more = AreInTurnAfter None messages exchanges more
 
 -- the messages of a log are those of these exchanges, of one dialogue or of several
 pub record IsDialogueOf (log : LogValue) (exchanges : List Exchange) : Type 0 where
-  pub messages : List Sent
+  pub messages : List RecordedMessage
   pub sent : AreSent log messages
   pub in_turn : AreInTurn messages exchanges []
 
@@ -140,19 +140,19 @@ IsOutOfTurn before bytes =
     (m : MessageView) × IsMessage bytes m × ((is_answer m ≡ true) ⊎ (may_follow before m ≡ false))
 
 -- why a message isn't the client's next one
-abbrev pub IsClientFault : Option Exchange → Sent → DialogueFault → Type 0
+abbrev pub IsClientFault : Option Exchange → RecordedMessage → DialogueFault → Type 0
 IsClientFault before m (fault.NotAMessage offset) =
     (at : ℕ) × CeasesAt m.bytes.now at × (offset ≡ m.start + at)
 IsClientFault before m (fault.NotInTurn offset) = IsOutOfTurn before m.bytes.now × (offset ≡ m.start)
 IsClientFault before m _ = ⊥
 
 -- why the first of the messages after the client's can't be asked whether it is an answer
-abbrev pub IsAnswerFault : List Sent → DialogueFault → Type 0
+abbrev pub IsAnswerFault : List RecordedMessage → DialogueFault → Type 0
 IsAnswerFault (m ∷ ms) (fault.Answer start f) = IsCodeFault m.bytes.now f × (start ≡ m.start)
 IsAnswerFault _ _ = ⊥
 
 -- after that exchange, why the first of the messages, the client's, or the one after it is refused
-abbrev pub IsExchangeFault : Option Exchange → List Sent → DialogueFault → Type 0
+abbrev pub IsExchangeFault : Option Exchange → List RecordedMessage → DialogueFault → Type 0
 IsExchangeFault before [] f = ⊥
 IsExchangeFault before (m ∷ ms) f =
     IsClientFault before m f
@@ -164,14 +164,14 @@ last_of before [] = before
 last_of before (e ∷ es) = last_of (Some e) es
 
 -- after some exchanges a message is refused
-abbrev pub IsTurnFault : List Sent → DialogueFault → Type 0
+abbrev pub IsTurnFault : List RecordedMessage → DialogueFault → Type 0
 IsTurnFault messages f =
-    (front : List Exchange) × (rest : List Sent) × AreInTurn messages front rest
+    (front : List Exchange) × (rest : List RecordedMessage) × AreInTurn messages front rest
     × IsExchangeFault (last_of None front) rest f
 
 -- the same of the messages of a log
 abbrev pub IsTurnFaultOf : LogValue → DialogueFault → Type 0
-IsTurnFaultOf log f = (messages : List Sent) × AreSent log messages × IsTurnFault messages f
+IsTurnFaultOf log f = (messages : List RecordedMessage) × AreSent log messages × IsTurnFault messages f
 
 -- the first refusal: of the file as a whole, or of its messages in their order
 abbrev pub IsDialogueFault : List ℕ → DialogueFault → Type 0
@@ -181,18 +181,18 @@ IsDialogueFault file f =
 -- ---- of private contracts and proofs only
 
 -- each message ends where a machine's numbers still count
-abbrev pub EndsBelow : List Sent → Type 0
+abbrev pub EndsBelow : List RecordedMessage → Type 0
 EndsBelow messages = AllByRecursion (λ m. m.start + length m.bytes.now < 2 ^ 64) messages
 
-abbrev pub BeginsWithOne : Option Exchange → List Sent → Exchange → Type 0
-BeginsWithOne before messages e = (rest : List Sent) × BeginsWith before messages e rest
+abbrev pub BeginsWithOne : Option Exchange → List RecordedMessage → Exchange → Type 0
+BeginsWithOne before messages e = (rest : List RecordedMessage) × BeginsWith before messages e rest
 
 -- the message is that answer, or it is none
-abbrev pub IsAnswerIn : Sent → Option Answer → Type 0
+abbrev pub IsAnswerIn : RecordedMessage → Option Answer → Type 0
 IsAnswerIn m None = IsCodesOf m.bytes.now []
 IsAnswerIn m (Some a) = IsFromBank a.sent.bytes.now a.codes.items × (a.sent ≡ m)
 
 -- the same of the first of the messages, if there is one
-abbrev pub IsAnsweredBy : List Sent → Option Answer → Type 0
+abbrev pub IsAnsweredBy : List RecordedMessage → Option Answer → Type 0
 IsAnsweredBy [] answer = answer ≡ None
 IsAnsweredBy (m ∷ ms) answer = IsAnswerIn m answer

@@ -10,7 +10,7 @@ use Rattle.fints_rules_permissions.specs.Permits.{Granted}
 use Rattle.fints_rules_permissions.specs.declared.orders.OrderRow.{OrderRow}
 use Rattle.fints_rules_dialogues.specs.Nearest.{nearest}
 use Rattle.fints_rules_dialogues.specs.Parties.{parties, same_bank, same_customer}
-use Rattle.fints_rules_dialogues.specs.declared.messages.Sent.{Sent}
+use Rattle.fints_rules_dialogues.specs.declared.messages.RecordedMessage.{RecordedMessage}
 use Rattle.fints_rules_dialogues.specs.declared.fault.DialogueFault.{DialogueFault}
 use Rattle.fints_rules_dialogues.specs.declared.fault.DialogueFault.TheVariants as fault
 use Rattle.fints_rules_dialogues.specs.declared.parties.Party.{Party}
@@ -79,7 +79,7 @@ pub record GrantsEach (orders : List OrderRow) (exchanges : List Exchange) (gran
 -- ---- refusals
 
 -- why the message is refused as a capture, other than for what is missing
-abbrev pub IsCaptureFault : Sent → DialogueFault → Type 0
+abbrev pub IsCaptureFault : RecordedMessage → DialogueFault → Type 0
 IsCaptureFault m (fault.Answer start f) = IsRefusedOf fault_after m.bytes.now f × (start ≡ m.start)
 IsCaptureFault m _ = ⊥
 

@@ -6,7 +6,7 @@ ghost use Rattle.fints_rules_dialogues.specs.Auditing.{before_in, codes_told, Ar
 ghost use Rattle.fints_rules_dialogues.specs.OwnParams.{IsOwnParamsFault};
 
 use crate::fault::DialogueFault;
-use crate::messages::Sent;
+use crate::messages::RecordedMessage;
 use crate::own_params::OwnParams;
 use crate::reading::{Exchange, message_count, read_exchange};
 use crate::recording::Recording;
@@ -20,7 +20,7 @@ use std::alloc::Global;
 /// A message of the client, and the rules that it breaks, in order of rule, then of segment.
 #[derive(Drop)]
 pub struct Audited<'a> {
-    pub sent: Sent<'a>,
+    pub sent: RecordedMessage<'a>,
     /// Whether it is the first of a dialogue.
     pub begins: bool,
     pub broken: Vec<Broken>,

@@ -10,7 +10,7 @@ use std::alloc::Global;
 
 /// A message as it was sent: its bytes, and the offset in the file at which it begins.
 #[derive(Clone, Copy)]
-pub struct Sent<'a> {
+pub struct RecordedMessage<'a> {
     pub start: usize,
     pub bytes: &'a [u8],
 }
@@ -31,14 +31,14 @@ pub fn read_log(alloc: Global, file: &[u8]) -> Result<Log<'_>, DialogueFault>
 }
 
 /// The messages of a log.
-pub fn sents_of<'a>(alloc: Global, log: &'a Log<'_>) -> Result<Vec<Sent<'a>>, Memory>
+pub fn sents_of<'a>(alloc: Global, log: &'a Log<'_>) -> Result<Vec<RecordedMessage<'a>>, Memory>
     ensures sent { IfOk result (λ v. AreSent log.now v.items) }
     ensures some { IfOk result (λ v. v.items ≡ [] → ⊥) }
     ensures below { IfOk result (λ v. EndsBelow v.items) }
 {
     let mut sents = Vec::new(alloc);
     for found in log.messages() {
-        sents.push(Sent {
+        sents.push(RecordedMessage {
             start: found.start(),
             bytes: found.bytes(),
         })?;

@@ -7,7 +7,7 @@ ghost use Rattle.fints_rules_dialogues.specs.Dialogues.{IsMemoryOrRefusal};
 ghost use Rattle.fints_rules_dialogues.specs.OwnParams.{AnswerTells, AreHeard, IsCaptureFault, IsRefusedAnswer, IsTellingFault};
 
 use crate::fault::DialogueFault;
-use crate::messages::Sent;
+use crate::messages::RecordedMessage;
 use crate::parties::{Party, first_party, next_party};
 use crate::reading::{Answer, Exchange};
 use fints_params::{BankParams, ParamFault, Told, UserParams, told_in};
@@ -44,7 +44,7 @@ pub struct Heard<'a> {
     bank: Option<Box<BankParams>>,
     user: Option<Box<UserParams>>,
     // The answer that says it.
-    answer: Option<Sent<'a>>,
+    answer: Option<RecordedMessage<'a>>,
 }
 
 impl<'a> Model for Heard<'a> {
@@ -83,13 +83,13 @@ impl<'a> Heard<'a> {
     }
 
     /// The answer. No contract says so.
-    pub fn answer(&self) -> Option<Sent<'a>> {
+    pub fn answer(&self) -> Option<RecordedMessage<'a>> {
         self.answer
     }
 }
 
 // What a message of the bank says.
-fn told_in_sent(alloc: Global, sent: &Sent<'_>) -> Result<Told, DialogueFault>
+fn told_in_sent(alloc: Global, sent: &RecordedMessage<'_>) -> Result<Told, DialogueFault>
     ensures bank { IfOk result (λ told. TellsBank sent.now.bytes.now told.bank) }
     ensures user { IfOk result (λ told. TellsUser sent.now.bytes.now told.user) }
     ensures refused { IfErr result (λ f. IsMemoryOrRefusal (IsCaptureFault sent.now) f) }
@@ -125,7 +125,7 @@ fn heard_of<'a>(
     alloc: Global,
     party: Rc<Party>,
     told: Told,
-    answer: Option<Sent<'a>>,
+    answer: Option<RecordedMessage<'a>>,
 ) -> Result<Heard<'a>, Memory>
     ensures { IfOk result (λ h.
         h ≡ record { party = party.value; bank = told.bank; user = told.user }) }
@@ -140,7 +140,7 @@ fn heard_of<'a>(
 }
 
 // Where the answer of an exchange is.
-fn sent_in<'a>(answer: &Option<Answer<'a>>) -> Option<Sent<'a>> {
+fn sent_in<'a>(answer: &Option<Answer<'a>>) -> Option<RecordedMessage<'a>> {
     match answer {
         None => None,
         Some(answer) => Some(answer.sent),

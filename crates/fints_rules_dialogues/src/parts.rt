@@ -8,7 +8,7 @@ use crate::reading::Exchange;
 
 /// Exchanges of a recording that come one after the other, and how many of the recording come before them.
 #[derive(Clone, Copy)]
-pub struct Part<'e, 'a> {
+pub struct DialoguePart<'e, 'a> {
     pub exchanges: &'e [Exchange<'a>],
     pub before: usize,
 }
@@ -62,7 +62,10 @@ fn dialogue_from<'e, 'a>(exchanges: &'e [Exchange<'a>], before: usize) -> &'e [E
 
 /// The exchanges of the dialogue of a number, which counts from 1, or without a number all of them. There is none
 /// where the recording has fewer dialogues, or the number is 0.
-pub fn part_of<'e, 'a>(exchanges: &'e [Exchange<'a>], number: Option<u32>) -> Option<Part<'e, 'a>>
+pub fn part_of<'e, 'a>(
+    exchanges: &'e [Exchange<'a>],
+    number: Option<u32>,
+) -> Option<DialoguePart<'e, 'a>>
     ensures some { IfSome result (λ part. IsPart exchanges.now number part.exchanges.now) }
     ensures place { IfSome result (λ part. (after : List ExchangeValue)
         × (drop part.before exchanges.now ≡ part.exchanges.now ++ after)
@@ -70,13 +73,13 @@ pub fn part_of<'e, 'a>(exchanges: &'e [Exchange<'a>], number: Option<u32>) -> Op
     ensures none { IfNone result ((n : ℕ) × (number ≡ Some n) × LacksDialogue exchanges.now n) }
 {
     let Some(number) = number else {
-        return Some(Part {
+        return Some(DialoguePart {
             exchanges,
             before: 0,
         });
     };
     let before = count_before(exchanges, number as usize)?;
-    Some(Part {
+    Some(DialoguePart {
         exchanges: dialogue_from(exchanges, before),
         before,
     })

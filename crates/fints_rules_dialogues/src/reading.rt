@@ -7,7 +7,7 @@ ghost use Rattle.fints_syntax_segments.specs.Values.{value_at};
 ghost use Rattle.fints_rules_dialogues.specs.Dialogues.{begins_after, is_answer, is_hirmg, is_zero, may_follow, may_follow_answer, opens, sents_in, IsAnswerIn, IsAnsweredBy, IsClientsNext, IsClientFault, IsAnswerFault, IsExchangeFault, IsMemoryOrRefusal, EndsBelow, BeginsWithOne};
 
 use crate::fault::DialogueFault;
-use crate::messages::Sent;
+use crate::messages::RecordedMessage;
 use fints_params::{Code, ParamFault, feedback_codes};
 use fints_rules_messages::{JudgeFault, Message, UnreadObserver, read_message_with};
 use fints_syntax::SegmentView;
@@ -16,7 +16,7 @@ use std::alloc::Global;
 /// An answer of the bank, and the codes of its feedback in their order.
 #[derive(Drop)]
 pub struct Answer<'a> {
-    pub sent: Sent<'a>,
+    pub sent: RecordedMessage<'a>,
     pub codes: Vec<Code>,
 }
 
@@ -24,7 +24,7 @@ pub struct Answer<'a> {
 /// message of a dialogue may have none.
 #[derive(Drop)]
 pub struct Exchange<'a> {
-    pub sent: Sent<'a>,
+    pub sent: RecordedMessage<'a>,
     pub message: Message<'a>,
     pub answer: Option<Answer<'a>>,
     /// Whether it is the first of a dialogue.
@@ -109,7 +109,7 @@ fn may_follow(before: Option<&Exchange<'_>>, message: &Message<'_>) -> bool
 fn read_client<'a, O: UnreadObserver>(
     alloc: Global,
     before: Option<&Exchange<'_>>,
-    sent: &Sent<'a>,
+    sent: &RecordedMessage<'a>,
     observer: &mut O,
 ) -> Result<Message<'a>, DialogueFault>
     requires { sent.now.start + length sent.now.bytes.now < 2 ^ 64 }
@@ -138,7 +138,10 @@ fn read_client<'a, O: UnreadObserver>(
 }
 
 // The answer that the message is. It is none where it has no code.
-fn read_answer<'a>(alloc: Global, sent: &Sent<'a>) -> Result<Option<Answer<'a>>, DialogueFault>
+fn read_answer<'a>(
+    alloc: Global,
+    sent: &RecordedMessage<'a>,
+) -> Result<Option<Answer<'a>>, DialogueFault>
     ensures answer { IfOk result (λ answer. IsAnswerIn sent.now answer) }
     ensures refused { IfErr result (λ f. IsMemoryOrRefusal (IsAnswerFault (sent.now ∷ [])) f) }
 {
@@ -162,7 +165,7 @@ fn read_answer<'a>(alloc: Global, sent: &Sent<'a>) -> Result<Option<Answer<'a>>,
 // The answer that the first of the messages is, if there is one.
 fn next_answer<'a>(
     alloc: Global,
-    messages: &[Sent<'a>],
+    messages: &[RecordedMessage<'a>],
 ) -> Result<Option<Answer<'a>>, DialogueFault>
     ensures answer { IfOk result (λ answer. IsAnsweredBy messages.now answer) }
     ensures refused { IfErr result (λ f. IsMemoryOrRefusal (IsAnswerFault messages.now) f) }
@@ -178,7 +181,7 @@ fn next_answer<'a>(
 pub fn read_exchange<'a, O: UnreadObserver>(
     alloc: Global,
     before: Option<&Exchange<'_>>,
-    messages: &[Sent<'a>],
+    messages: &[RecordedMessage<'a>],
     observer: &mut O,
 ) -> Result<Exchange<'a>, DialogueFault>
     requires some { 0 < length messages.now }

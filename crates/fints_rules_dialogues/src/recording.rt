@@ -4,7 +4,7 @@ ghost use Rattle.std.specs.List.{AllByRecursion};
 ghost use Rattle.fints_rules_dialogues.specs.Dialogues.{IsExchange, IsTurnFault, IsTurnFaultOf, AreInTurn, AreSent, IsDialogueOf, IsMemoryOrRefusal, EndsBelow};
 
 use crate::fault::DialogueFault;
-use crate::messages::{Sent, sents_of};
+use crate::messages::{RecordedMessage, sents_of};
 use crate::reading::{Exchange, message_count, read_exchange};
 use fints_rules_logs::Log;
 use fints_rules_messages::{Unobserved, UnreadObserver};
@@ -15,13 +15,13 @@ use std::marker::Model;
 /// The messages of a log, one at least; a contract sees them.
 #[derive(Drop)]
 pub struct Recording<'a> {
-    messages: Vec<Sent<'a>>,
+    messages: Vec<RecordedMessage<'a>>,
 }
 
 impl<'a> Model for Recording<'a> {
     ghost use Rattle.std.specs.Prelude.{◌≢◌, List, []};
     ghost use Rattle.fints_rules_dialogues.specs.Dialogues.{EndsBelow};
-    ghost use Rattle.fints_rules_dialogues.specs.declared.messages.Sent.{Sent as SentValue};
+    ghost use Rattle.fints_rules_dialogues.specs.declared.messages.RecordedMessage.{RecordedMessage as SentValue};
 
     ghost Value = { List SentValue };
 
@@ -40,7 +40,7 @@ impl<'a> Recording<'a> {
     }
 
     /// The messages of both sides, in order; there is one at least.
-    pub fn messages(&self) -> &[Sent<'a>]
+    pub fn messages(&self) -> &[RecordedMessage<'a>]
         ensures messages { result.now ≡ self.now }
         ensures some { result.now ≢ [] }
         ensures below { EndsBelow result.now }

@@ -14,7 +14,7 @@ ghost use Rattle.fints_rules_dialogues.specs.declared.sources.Side.TheVariants.{
 ghost use Rattle.fints_rules_dialogues.specs.Nearest.{nearest};
 
 use crate::fault::DialogueFault;
-use crate::messages::Sent;
+use crate::messages::RecordedMessage;
 use crate::own_params::{Heard, OwnParams, boxed, boxed_in};
 use crate::parties::Party;
 use fints_rules_permissions::{BankPermissions, OrderTable, Permissions, UserPermissions};
@@ -51,8 +51,8 @@ pub struct Key<'a> {
 /// a capture is handed in.
 #[derive(Clone, Copy)]
 pub struct ToldIn<'a> {
-    pub bank: Option<Sent<'a>>,
-    pub user: Option<Sent<'a>>,
+    pub bank: Option<RecordedMessage<'a>>,
+    pub user: Option<RecordedMessage<'a>>,
 }
 
 /// By what a message is judged, and the answers that this comes from; a contract sees what is permitted.
@@ -167,7 +167,11 @@ fn user_at<'g, 'a>(users: &Sources<'g, 'a>, party: &'g Party) -> Option<&'g User
 }
 
 // The answer that is the nearest of the party to say something of the side, if there is one.
-fn answer_at<'g, 'a>(sources: &Sources<'g, 'a>, side: Side, party: &'g Party) -> Option<Sent<'a>> {
+fn answer_at<'g, 'a>(
+    sources: &Sources<'g, 'a>,
+    side: Side,
+    party: &'g Party,
+) -> Option<RecordedMessage<'a>> {
     match sources.get(&key_of(side, party)) {
         Some(granting) => granting.heard.answer(),
         None => None,

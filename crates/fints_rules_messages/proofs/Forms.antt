@@ -12,15 +12,15 @@ use Rattle.fints_syntax_segments.specs.Values.{is_named}
 use Rattle.fints_rules_messages.specs.Parts.{part_of}
 use Rattle.fints_rules_messages.specs.Messages.{IsNumbered, IsInner, IsLast, IsSealHead, Seals}
 use Rattle.fints_rules_messages.specs.Front.{IsHalf, CanFollow, CanStand, IsTail, BeginsBy, IsNumber}
-use Rattle.fints_rules_messages.specs.declared.part.Part.{Part}
-use Rattle.fints_rules_messages.specs.declared.part.Part.TheVariants.{Opener, Body, Ender, Other}
+use Rattle.fints_rules_messages.specs.declared.part.MessagePart.{MessagePart}
+use Rattle.fints_rules_messages.specs.declared.part.MessagePart.TheVariants.{Opener, Body, Ender, Other}
 use Rattle.fints_rules_messages.proofs.Ranks.{IsRanked, Fits, fits, balanced, none_3}
 use Rattle.fints_rules_messages.proofs.Texts.{all_append}
 use Rattle.fints_rules_messages.proofs.Fronts.{numbered-append, length-half}
 
 -- ---- ranks of parts
 
-abbrev pub rank : Part → ℕ
+abbrev pub rank : MessagePart → ℕ
 rank Opener = 0
 rank Body = 1
 rank Ender = 2
@@ -29,12 +29,12 @@ rank Other = 3
 abbrev pub rank_of : OwnedSegment → ℕ
 rank_of s = rank (part_of s)
 
-all_ranks : (p : Part) (c : ℕ) (ss : List OwnedSegment) → rank p ≡ c → AllByRecursion (λ s. part_of s ≡ p) ss
+all_ranks : (p : MessagePart) (c : ℕ) (ss : List OwnedSegment) → rank p ≡ c → AllByRecursion (λ s. part_of s ≡ p) ss
     → AllByRecursion (λ s. rank_of s ≡ c) ss
 all_ranks p c [] e h = tt
 all_ranks p c (s ∷ ss) e h = (ap rank h.0 ∙ e, all_ranks p c ss e h.1)
 
-follows : (p : Part) (k b e : ℕ) → Fits (rank p) k b e → CanFollow p k b e
+follows : (p : MessagePart) (k b e : ℕ) → Fits (rank p) k b e → CanFollow p k b e
 follows Opener k b e f = f.at_0 refl
 follows Body k b e f = f.at_1 refl
 follows Ender k b e f = f.at_2 refl
@@ -103,7 +103,7 @@ inner_half ss os body ends h n =
 
 -- ---- segments of the frame are no inner ones
 
-abbrev part_by : List ℕ → ℕ → Part
+abbrev part_by : List ℕ → ℕ → MessagePart
 part_by id version = part_of (record { head = record { id = id; number = 0; version = version; reference = None }; elements = [] })
 
 kind_is : (kind : List ℕ) (version : ℕ) (s : OwnedSegment) → IsTrue (is_named s kind version)

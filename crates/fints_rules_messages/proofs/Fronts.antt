@@ -7,8 +7,8 @@ use Rattle.fints_syntax_segments.specs.declared.item.OwnedSegment.{OwnedSegment}
 use Rattle.fints_syntax.specs.Owned.{segment_of, segments_of}
 use Rattle.fints_rules_messages.specs.Segments.{texts_of}
 use Rattle.fints_rules_messages.specs.Parts.{part_of}
-use Rattle.fints_rules_messages.specs.declared.part.Part.{Part}
-use Rattle.fints_rules_messages.specs.declared.part.Part.TheVariants.{Opener, Body, Ender, Other}
+use Rattle.fints_rules_messages.specs.declared.part.MessagePart.{MessagePart}
+use Rattle.fints_rules_messages.specs.declared.part.MessagePart.TheVariants.{Opener, Body, Ender, Other}
 use Rattle.fints_rules_messages.specs.Messages.{IsNumbered}
 use Rattle.fints_rules_messages.specs.Front.{IsHalf, IsFront, IsNextSegment, CanStand, CanFollow}
 use Rattle.fints_syntax.specs.Laws.{OneSegmentText}
@@ -151,7 +151,7 @@ pub after_opener : (s : OwnedSegment) (k b e : ℕ) → CanStand s k b e → Ope
 after_opener s k b e h p = subst (λ q. CanFollow q k b e) (sym p) h.1
 
 -- what can come there and is neither HNSHK nor HNSHA is of the body
-pub after_body : (s : OwnedSegment) (k b e : ℕ) (p : Part) → CanStand s k b e → p ≡ part_of s
+pub after_body : (s : OwnedSegment) (k b e : ℕ) (p : MessagePart) → CanStand s k b e → p ≡ part_of s
     → (p ≡ Opener → ⊥) → (p ≡ Ender → ⊥) → (part_of s ≡ Body) × (e ≡ 0)
 after_body s k b e Opener h p opener ender = absurd (opener refl)
 after_body s k b e Body h p opener ender = (sym p, subst (λ q. CanFollow q k b e) (sym p) h.1)

@@ -14,8 +14,8 @@ use Rattle.fints_rules_messages.specs.declared.front.Seal.{Seal}
 use Rattle.fints_rules_messages.specs.declared.slip.Slip.{Slip}
 use Rattle.fints_rules_messages.specs.declared.tail.Tail.{Tail}
 use Rattle.fints_rules_messages.specs.declared.tail.Tail.TheVariants.{Whole, Stop}
-use Rattle.fints_rules_messages.specs.declared.part.Part.{Part}
-use Rattle.fints_rules_messages.specs.declared.part.Part.TheVariants.{Opener, Body, Ender, Other}
+use Rattle.fints_rules_messages.specs.declared.part.MessagePart.{MessagePart}
+use Rattle.fints_rules_messages.specs.declared.part.MessagePart.TheVariants.{Opener, Body, Ender, Other}
 
 -- the inner segments that were read, in order
 abbrev pub inner_of : Inner → List OwnedSegment
@@ -40,7 +40,7 @@ pub record IsHalf (segments openers body ends : List OwnedSegment) : Type 0 wher
   pub together : segments ≡ openers ++ (body ++ ends)
 
 -- a segment of this part can follow this many HNSHK, segments of the body and HNSHA
-abbrev pub CanFollow : Part → ℕ → ℕ → ℕ → Type 0
+abbrev pub CanFollow : MessagePart → ℕ → ℕ → ℕ → Type 0
 CanFollow Opener openers body ends = (body ≡ 0) × (ends ≡ 0)
 CanFollow Body openers body ends = ends ≡ 0
 CanFollow Ender openers body ends = ends < openers

@@ -13,7 +13,7 @@ use Rattle.fints_syntax_segments.specs.Values.{item_at, value_at}
 use Rattle.fints_syntax_segments.specs.Number.{number_in}
 use Rattle.fints_syntax_segments.specs.Values.{is_named}
 use Rattle.fints_rules_messages.specs.Parts.{part_of}
-use Rattle.fints_rules_messages.specs.declared.part.Part.TheVariants.{Opener, Body, Ender}
+use Rattle.fints_rules_messages.specs.declared.part.MessagePart.TheVariants.{Opener, Body, Ender}
 
 -- What a message holds: its first segment, those in the middle, and its last. The inner segments are those in the middle, or
 -- are in the data of the HNVSD there; they hold the body, and `ends`, the HNSHA, one for each signature.

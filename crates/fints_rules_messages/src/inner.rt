@@ -4,7 +4,7 @@ ghost use Rattle.fints_syntax.specs.Owned.{segment_of};
 ghost use Rattle.fints_rules_messages.specs.Front.{IsNextSegment, HasNoNext, IsFront, CanStandBehind, NoneStandsBehind};
 
 use crate::front::{Inner, Seal};
-use crate::part::{Part, part_of};
+use crate::part::{MessagePart, part_of};
 use fints_syntax::{SegmentView, parse_segment};
 use std::alloc::{AllocError, Global};
 
@@ -29,10 +29,10 @@ pub fn can_stand(view: &SegmentView<'_>, inner: &Inner<'_>) -> bool
     }
     let (openers, body, ends) = (inner.openers.len(), inner.body.len(), inner.ends.len());
     match part_of(view) {
-        Part::Opener => body == 0 && ends == 0,
-        Part::Body => ends == 0,
-        Part::Ender => ends < openers,
-        Part::Other => false,
+        MessagePart::Opener => body == 0 && ends == 0,
+        MessagePart::Body => ends == 0,
+        MessagePart::Ender => ends < openers,
+        MessagePart::Other => false,
     }
 }
 
@@ -76,8 +76,8 @@ pub fn read_inner<'a>(
         };
         inner.at += len;
         match part_of(&view) {
-            Part::Opener => inner.openers.push(view)?,
-            Part::Ender => inner.ends.push(view)?,
+            MessagePart::Opener => inner.openers.push(view)?,
+            MessagePart::Ender => inner.ends.push(view)?,
             _ => inner.body.push(view)?,
         }
     }

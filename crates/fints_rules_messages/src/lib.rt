@@ -17,5 +17,5 @@ mod values;
 pub use front::{Inner, Seal};
 pub use message::{JudgeFault, Message, read_or_slip};
 pub use observing::{Unobserved, UnreadObserver, read_message, read_message_with};
-pub use part::{Part, part_of};
+pub use part::{MessagePart, part_of};
 pub use slip::{Slip, Unread};

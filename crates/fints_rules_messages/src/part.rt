@@ -11,7 +11,7 @@ use fints_syntax_segments::{HNSHA_VERSION, HNSHK_VERSION};
 
 /// A segment between the first and the last of a message.
 #[derive(Clone, Copy, PartialEq, Eq)]
-pub enum Part {
+pub enum MessagePart {
     /// HNSHK.
     Opener,
     /// A segment of the body.
@@ -23,16 +23,16 @@ pub enum Part {
 }
 
 /// What the segment is.
-pub fn part_of(view: &SegmentView<'_>) -> Part
+pub fn part_of(view: &SegmentView<'_>) -> MessagePart
     ensures { result ≡ part_of (segment_of view.now) }
 {
     if view.is_named(b"HNSHK", HNSHK_VERSION) {
-        Part::Opener
+        MessagePart::Opener
     } else if view.is_named(b"HNSHA", HNSHA_VERSION) {
-        Part::Ender
+        MessagePart::Ender
     } else if is_frame_kind(view.id().as_bytes()) {
-        Part::Other
+        MessagePart::Other
     } else {
-        Part::Body
+        MessagePart::Body
     }
 }

@@ -12,7 +12,7 @@ use Rattle.fints_params.specs.declared.rows.AccountRow.{AccountRow}
 use Rattle.fints_params.specs.declared.rows.Entry.{Entry}
 use Rattle.fints_rules_permissions.specs.declared.needs.Naming.{Naming}
 use Rattle.fints_rules_permissions.specs.declared.needs.Naming.TheVariants.{Iban, Items}
-use Rattle.fints_rules_permissions.specs.declared.needs.Place.{Place}
+use Rattle.fints_rules_permissions.specs.declared.needs.EntryPlace.{EntryPlace}
 use Rattle.fints_rules_permissions.specs.Needs.{seen_as, seen_at, seen_in_row, seen_of, seen_on, seen_twice, IsLeastOf, Key, key_cmp, Seen, seen_key}
 use Rattle.fints_rules_permissions.specs.Ranks.{IsLeastRank}
 use Rattle.fints_rules_permissions.proofs.Members.{from_map, to_map}
@@ -69,7 +69,7 @@ least_of seen xs q (Some n) h =
 
 -- ---- the places of a row's entries
 
-abbrev place_of : Naming → ℕ → ℕ → Place
+abbrev place_of : Naming → ℕ → ℕ → EntryPlace
 place_of naming i j = record { naming = naming; row = i; entry = j }
 
 seen_there : (rows : List AccountRow) (naming : Naming) (i j : ℕ) (row : AccountRow) (e : Entry)
@@ -77,7 +77,7 @@ seen_there : (rows : List AccountRow) (naming : Naming) (i j : ℕ) (row : Accou
     → seen_at rows (place_of naming i j) ≡ seen_as naming row e
 seen_there rows naming i j row e at within = ap (λ (r : Option AccountRow). seen_on naming r j) at ∙ ap (seen_of naming row) within
 
-pub row_more : (rows : List AccountRow) (i j : ℕ) (none : AccountRow) (places one two : List Place)
+pub row_more : (rows : List AccountRow) (i j : ℕ) (none : AccountRow) (places one two : List EntryPlace)
     (before : List Seen)
     → i < length rows → j < length (get_or rows i none).entries → one ≡ places ++ place_of Items i j ∷ []
     → two ≡ one ++ place_of Iban i j ∷ []
@@ -92,7 +92,7 @@ row_more rows i j none places one two before less within first second is =
     let at : slice_get rows i ≡ Some row = slice_get-get_or rows i none less in
     let at' : slice_get row.entries j ≡ Some e = slice_get-get_or row.entries j d within in
     let both : two ≡ places ++ (place_of Items i j ∷ place_of Iban i j ∷ []) =
-    second ∙ ap (λ (ps : List Place). ps ++ place_of Iban i j ∷ []) first
+    second ∙ ap (λ (ps : List EntryPlace). ps ++ place_of Iban i j ∷ []) first
     ∙ append_assoc places (place_of Items i j ∷ []) (place_of Iban i j ∷ []) in
     let twice : map (seen_at rows) (place_of Items i j ∷ place_of Iban i j ∷ []) ≡ seen_twice row e =
     ap (λ (s : Seen). s ∷ seen_at rows (place_of Iban i j) ∷ []) (seen_there rows Items i j row e at at')
@@ -104,7 +104,7 @@ row_more rows i j none places one two before less within first second is =
     ∙ flat_map_more (seen_twice row) before (take j row.entries) e
     ∙ ap (λ (es : List Entry). before ++ flat_map (seen_twice row) es) (sym (take_more row.entries j d within))
 
-pub rows_more : (rows : List AccountRow) (i : ℕ) (none : AccountRow) (places new : List Place)
+pub rows_more : (rows : List AccountRow) (i : ℕ) (none : AccountRow) (places new : List EntryPlace)
     → i < length rows → map (seen_at rows) new ≡ map (seen_at rows) places ++ seen_in_row (get_or rows i none)
     → map (seen_at rows) places ≡ flat_map seen_in_row (take i rows)
     → map (seen_at rows) new ≡ flat_map seen_in_row (take (i + 1) rows)

@@ -9,7 +9,7 @@ use Rattle.fints_params.specs.declared.rows.Entry.{Entry}
 use Rattle.fints_rules_permissions.specs.Accounts.{Account, nobody, by_items, by_iban}
 use Rattle.fints_rules_permissions.specs.declared.needs.Naming.{Naming}
 use Rattle.fints_rules_permissions.specs.declared.needs.Naming.TheVariants.{Iban, Items}
-use Rattle.fints_rules_permissions.specs.declared.needs.Place.{Place}
+use Rattle.fints_rules_permissions.specs.declared.needs.EntryPlace.{EntryPlace}
 use Rattle.fints_rules_permissions.specs.declared.needs.NeedKey.{NeedKey}
 
 -- ---- keys
@@ -91,7 +91,7 @@ seen_on naming None entry = nothing
 seen_on naming (Some row) entry = seen_of naming row (slice_get row.entries entry)
 
 -- the entry at a place
-abbrev pub seen_at : List AccountRow → Place → Seen
+abbrev pub seen_at : List AccountRow → EntryPlace → Seen
 seen_at rows place = seen_on place.naming (slice_get rows place.row) place.entry
 
 abbrev pub seen_key : Seen → Key

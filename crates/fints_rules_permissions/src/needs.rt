@@ -22,7 +22,7 @@ enum Naming {
 
 // Where an entry is among the rows, and the name of its account by which it is found here.
 #[derive(Clone, Copy)]
-struct Place {
+struct EntryPlace {
     naming: Naming,
     row: usize,
     entry: usize,
@@ -92,7 +92,7 @@ fn key_of<'a>(naming: Naming, row: &'a AccountRow, entry: &'a Entry) -> NeedKey<
 }
 
 // The key of the entry at a place; that of an empty account where there is none.
-fn key_at<'a>(rows: &'a [AccountRow], place: &Place) -> NeedKey<'a>
+fn key_at<'a>(rows: &'a [AccountRow], place: &EntryPlace) -> NeedKey<'a>
     ensures { key_in result ≡ seen_key (seen_at rows.now place.now) }
 {
     if let Some(row) = rows.get(place.row) {
@@ -111,7 +111,7 @@ fn key_at<'a>(rows: &'a [AccountRow], place: &Place) -> NeedKey<'a>
 }
 
 // How many signatures the entry at a place needs; none where there is no entry.
-fn signatures_at(rows: &[AccountRow], place: &Place) -> u32
+fn signatures_at(rows: &[AccountRow], place: &EntryPlace) -> u32
     ensures { result ≡ (seen_at rows.now place.now).signatures }
 {
     if let Some(row) = rows.get(place.row) {
@@ -123,7 +123,7 @@ fn signatures_at(rows: &[AccountRow], place: &Place) -> u32
 }
 
 // By their keys, then by the signatures.
-fn compare(rows: &[AccountRow], a: &Place, b: &Place) -> Ordering
+fn compare(rows: &[AccountRow], a: &EntryPlace, b: &EntryPlace) -> Ordering
     ensures { result ≡ seen_cmp (seen_at rows.now a.now) (seen_at rows.now b.now) }
 {
     let keys = compare_keys(&key_at(rows, a), &key_at(rows, b));
@@ -134,37 +134,37 @@ fn compare(rows: &[AccountRow], a: &Place, b: &Place) -> Ordering
 }
 
 // How an entry compares to a key.
-fn compare_key(rows: &[AccountRow], place: &Place, key: &NeedKey<'_>) -> Ordering
+fn compare_key(rows: &[AccountRow], place: &EntryPlace, key: &NeedKey<'_>) -> Ordering
     ensures { result ≡ key_cmp (seen_key (seen_at rows.now place.now)) (key_in key.now) }
 {
     compare_keys(&key_at(rows, place), key)
 }
 
-fn is_before(rows: &[AccountRow], place: &Place, key: &NeedKey<'_>) -> bool
+fn is_before(rows: &[AccountRow], place: &EntryPlace, key: &NeedKey<'_>) -> bool
     ensures { result ≡ is_lt (key_cmp (seen_key (seen_at rows.now place.now)) (key_in key.now)) }
 {
     compare_key(rows, place, key).is_lt()
 }
 
-fn has_key(rows: &[AccountRow], place: &Place, key: &NeedKey<'_>) -> bool
+fn has_key(rows: &[AccountRow], place: &EntryPlace, key: &NeedKey<'_>) -> bool
     ensures { result ≡ is_eq (key_cmp (seen_key (seen_at rows.now place.now)) (key_in key.now)) }
 {
     compare_key(rows, place, key).is_eq()
 }
 
 // Adds the places of the entries of a row, each under both names of its account.
-fn add_row(places: &mut Vec<Place>, rows: &[AccountRow], row: usize) -> Result<(), Memory>
+fn add_row(places: &mut Vec<EntryPlace>, rows: &[AccountRow], row: usize) -> Result<(), Memory>
     requires { row < length rows.now }
     ensures { (none : AccountRowValue) → OnOk result (map (seen_at rows.now) places.new.items
         ≡ map (seen_at rows.now) places.old.items ++ seen_in_row (get_or rows.now row none)) }
 {
     for entry in 0..rows[row].entries.as_slice().len() {
-        places.push(Place {
+        places.push(EntryPlace {
             naming: Naming::Items,
             row,
             entry,
         })?;
-        places.push(Place {
+        places.push(EntryPlace {
             naming: Naming::Iban,
             row,
             entry,
@@ -174,7 +174,7 @@ fn add_row(places: &mut Vec<Place>, rows: &[AccountRow], row: usize) -> Result<(
 }
 
 // The places of the entries of all rows, each under both names of its account.
-fn places_in(alloc: Global, rows: &[AccountRow]) -> Result<Vec<Place>, Memory>
+fn places_in(alloc: Global, rows: &[AccountRow]) -> Result<Vec<EntryPlace>, Memory>
     ensures { IfOk result (λ places. map (seen_at rows.now) places.items ≡ seen_in rows.now) }
 {
     let mut places = Vec::new(alloc);
@@ -184,7 +184,7 @@ fn places_in(alloc: Global, rows: &[AccountRow]) -> Result<Vec<Place>, Memory>
     Ok(places)
 }
 
-fn sort(places: &mut Vec<Place>, rows: &[AccountRow])
+fn sort(places: &mut Vec<EntryPlace>, rows: &[AccountRow])
     ensures permutation { IsPermutation places.old.items places.new.items }
     ensures sorted { IsSortedByKey (seen_at rows.now) seen_cmp places.new.items }
 {
@@ -192,14 +192,14 @@ fn sort(places: &mut Vec<Place>, rows: &[AccountRow])
 }
 
 // The first place whose entry isn't before the key.
-fn first_place(rows: &[AccountRow], places: &[Place], key: &NeedKey<'_>) -> usize
+fn first_place(rows: &[AccountRow], places: &[EntryPlace], key: &NeedKey<'_>) -> usize
     requires { IsSortedByKey (seen_at rows.now) seen_cmp places.now }
     ensures { BeginsAt key_cmp (λ p. seen_key (seen_at rows.now p)) (key_in key.now) places.now result }
 {
     places.partition_point(|place| is_before(rows, place, key))
 }
 
-fn least_in(rows: &[AccountRow], places: &[Place], key: &NeedKey<'_>) -> Option<u32>
+fn least_in(rows: &[AccountRow], places: &[EntryPlace], key: &NeedKey<'_>) -> Option<u32>
     requires { IsSortedByKey (seen_at rows.now) seen_cmp places.now }
     ensures { IsLeastOf (key_in key.now) (map (seen_at rows.now) places.now) result }
 {
@@ -214,7 +214,7 @@ fn least_in(rows: &[AccountRow], places: &[Place], key: &NeedKey<'_>) -> Option<
 #[derive(Drop)]
 pub struct Needs<'a> {
     rows: &'a [AccountRow],
-    places: Vec<Place>,
+    places: Vec<EntryPlace>,
 }
 
 impl<'a> Model for Needs<'a> {

@@ -26,18 +26,18 @@ pub enum Permit {
 
 // A part that is held, or that is shared with other permissions.
 #[derive(Drop)]
-enum Part<'a, T> {
+enum HeldOrShared<'a, T> {
     Held(T),
     Shared(&'a T),
 }
 
-impl<'a, T> Part<'a, T> {
+impl<'a, T> HeldOrShared<'a, T> {
     fn get(&self) -> &T
         ensures { result.now ≡ part_in self.now }
     {
         match self {
-            Part::Held(part) => part,
-            Part::Shared(part) => *part,
+            HeldOrShared::Held(part) => part,
+            HeldOrShared::Shared(part) => *part,
         }
     }
 }
@@ -46,8 +46,8 @@ impl<'a, T> Part<'a, T> {
 /// both. Its look-ups take no memory.
 #[derive(Drop)]
 pub struct Permissions<'a> {
-    bank: Part<'a, BankPermissions<'a>>,
-    user: Part<'a, UserPermissions<'a>>,
+    bank: HeldOrShared<'a, BankPermissions<'a>>,
+    user: HeldOrShared<'a, UserPermissions<'a>>,
 }
 
 impl<'a> Model for Permissions<'a> {
@@ -72,8 +72,8 @@ impl<'a> Permissions<'a> {
         let bank = BankPermissions::of(alloc, params.of_bank(), orders)?;
         let user = UserPermissions::of(alloc, params.of_user())?;
         Ok(Permissions {
-            bank: Part::Held(bank),
-            user: Part::Held(user),
+            bank: HeldOrShared::Held(bank),
+            user: HeldOrShared::Held(user),
         })
     }
 
@@ -82,8 +82,8 @@ impl<'a> Permissions<'a> {
         ensures { result ≡ granted bank.now user.now }
     {
         Permissions {
-            bank: Part::Shared(bank),
-            user: Part::Shared(user),
+            bank: HeldOrShared::Shared(bank),
+            user: HeldOrShared::Shared(user),
         }
     }
 

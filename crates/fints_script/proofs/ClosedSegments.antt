@@ -11,7 +11,7 @@ use Rattle.fints_script.specs.Numbered.{numbered}
 use Rattle.fints_script.specs.Plans.{IsClosed, IsClosedTemplate, is_literal, is_account_field, element_two, names_account, open_of}
 use Rattle.fints_script.specs.Scripts.{ScriptValue}
 use Rattle.fints_script.specs.Steps.{StepValue}
-use Rattle.fints_script.specs.declared.opens.Open.TheVariants as opens
+use Rattle.fints_script.specs.declared.opens.OpenPart.TheVariants as opens
 use Rattle.fints_script_templates.specs.declared.template.Template.{Template}
 use Rattle.fints_script.proofs.PlanLemmas.{none_at, none_open}
 

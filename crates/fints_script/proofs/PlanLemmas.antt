@@ -8,7 +8,7 @@ use Rattle.fints_rules_permissions.specs.declared.orders.OrderRow.{OrderRow}
 use Rattle.fints_script_rows.specs.declared.fields.NamedField.{NamedField}
 use Rattle.fints_script.specs.Plans.{open_fault, open_of, faults_in_segments, faults_in_step}
 use Rattle.fints_script.specs.Steps.{StepValue}
-use Rattle.fints_script.specs.declared.opens.Open.{Open}
+use Rattle.fints_script.specs.declared.opens.OpenPart.{OpenPart}
 use Rattle.fints_script.specs.declared.opens.PlanFault.{PlanFault}
 use Rattle.fints_script_templates.specs.declared.template.Template.{Template}
 
@@ -48,7 +48,7 @@ module _ (fields : List NamedField) (orders : List OrderRow) where
 
   module _ (n : ℕ) where
     -- the fault of a segment of this number, if it leaves this open, before those of the others
-    abbrev with_fault : ℕ → Option Open → List PlanFault → List PlanFault
+    abbrev with_fault : ℕ → Option OpenPart → List PlanFault → List PlanFault
     with_fault at left others = cons_option (option_map (λ left. open_fault left n at) left) others
 
     one_more : (first i : ℕ) (ts : List Template) (d : Template) → i < length ts
@@ -60,7 +60,7 @@ module _ (fields : List NamedField) (orders : List OrderRow) where
         ap (faults_in_segments fields orders n (first + i)) (drop_more ts i d lt)
         ∙ ap (λ k. with_fault (first + i) (open_of fields orders (get_or ts i d)) (faults_in_segments fields orders n k (drop (i + 1) ts))) next
 
-    pub segment_open : (first i : ℕ) (ts : List Template) (d : Template) (left : Open) → i < length ts
+    pub segment_open : (first i : ℕ) (ts : List Template) (d : Template) (left : OpenPart) → i < length ts
         → open_of fields orders (get_or ts i d) ≡ Some left
         → faults_in_segments fields orders n (first + i) (drop i ts) ≡ open_fault left n
         (first + i) ∷ faults_in_segments fields orders n (first + (i + 1)) (drop (i + 1) ts)

@@ -12,8 +12,8 @@ use Rattle.fints_script_rows.specs.NamedFields.{is_account_at}
 use Rattle.fints_script.specs.Scripts.{ScriptValue}
 use Rattle.fints_script.specs.Steps.{StepValue}
 use Rattle.fints_script_rows.specs.declared.fields.NamedField.{NamedField}
-use Rattle.fints_script.specs.declared.opens.Open.{Open}
-use Rattle.fints_script.specs.declared.opens.Open.TheVariants as opens
+use Rattle.fints_script.specs.declared.opens.OpenPart.{OpenPart}
+use Rattle.fints_script.specs.declared.opens.OpenPart.TheVariants as opens
 use Rattle.fints_script.specs.declared.opens.PlanFault.{PlanFault}
 use Rattle.fints_script.specs.declared.opens.PlanFault.TheVariants as faults
 use Rattle.fints_script_templates.specs.declared.template.TemplateItem.{TemplateItem}
@@ -58,13 +58,13 @@ abbrev pub is_open_process : Template → Bool
 is_open_process t = bytes_eq t.kind (codes "HKTAN") && not (list_all is_literal (element_two t))
 
 -- what a segment leaves open
-abbrev pub open_of : List NamedField → List OrderRow → Template → Option Open
+abbrev pub open_of : List NamedField → List OrderRow → Template → Option OpenPart
 open_of fields orders t =
     if is_open_account fields orders t then Some opens.Account
     else if is_open_process t then Some opens.Process else None
 
 -- the fault of what is left open; steps count from 1, and segments as they are numbered in the message
-abbrev pub open_fault : Open → ℕ → ℕ → PlanFault
+abbrev pub open_fault : OpenPart → ℕ → ℕ → PlanFault
 open_fault opens.Account step segment = faults.OpenAccount step segment
 open_fault opens.Process step segment = faults.OpenProcess step segment
 

@@ -20,7 +20,7 @@ use Rattle.fints_script_cases.specs.declared.answers.Target.TheVariants as targe
 use Rattle.fints_script_templates.specs.declared.template.TemplateItem.{TemplateItem}
 use Rattle.fints_script_templates.specs.declared.template.Template.{Template}
 use Rattle.fints_script_templates.specs.declared.template.Signer.{Signer}
-use Rattle.fints_script_templates.specs.declared.weights.Figures.{Figures}
+use Rattle.fints_script_templates.specs.declared.weights.FieldWeight.{FieldWeight}
 
 -- what a contract sees of a step; signers count from 0 among those of the script
 pub record StepValue : Type 0 where
@@ -35,7 +35,7 @@ pub record StepValue : Type 0 where
 -- what a step rests on: the fields with their figures, the signers, the seal if any, and all rows of `step`
 pub record Surroundings : Type 0 where
   pub fields : List NamedField
-  pub figures : List Figures
+  pub figures : List FieldWeight
   pub signers : List Signer
   pub seal : Option (List (List TemplateItem))
   pub rows : List Data
@@ -120,10 +120,10 @@ sealed_in has_seal d = flag_in d >>= with_seal has_seal
 -- ---- its limits
 
 -- the weight of the signer at a place among those of the script
-abbrev pub signature_weight : List Figures → List Signer → ℕ → ℕ
+abbrev pub signature_weight : List FieldWeight → List Signer → ℕ → ℕ
 signature_weight figures signers place = option_map_or (signer_weight figures) (slice_get signers place) 0
 
-abbrev pub seal_weight : List Figures → Bool → Option (List (List TemplateItem)) → ℕ
+abbrev pub seal_weight : List FieldWeight → Bool → Option (List (List TemplateItem)) → ℕ
 seal_weight figures true (Some seal) = segment_weight figures seal
 seal_weight figures _ _ = 0
 
@@ -135,7 +135,7 @@ step_weight around step =
     + seal_weight around.figures step.sealed around.seal)
 
 -- some segment has more items than it may
-abbrev pub has_large_segment : List Figures → List Template → Bool
+abbrev pub has_large_segment : List FieldWeight → List Template → Bool
 has_large_segment figures templates =
     list_any (λ (t : Template). nat_lt MAX_TEMPLATE_ITEMS (most_items figures t.elements)) templates
 

@@ -14,7 +14,7 @@ use thiserror::Error;
 
 /// What a segment leaves open.
 #[derive(Clone, Copy, PartialEq, Eq)]
-pub enum Open {
+pub enum OpenPart {
     Account,
     Process,
 }
@@ -106,25 +106,25 @@ fn is_open_process(template: &Template) -> bool
     template.kind.as_bytes() == b"HKTAN".as_slice() && !are_literal(element_two(template))
 }
 
-fn open_of(fields: &[NamedField], orders: &OrderTable, template: &Template) -> Option<Open>
+fn open_of(fields: &[NamedField], orders: &OrderTable, template: &Template) -> Option<OpenPart>
     ensures { result ≡ open_of fields.now orders.now template.now }
 {
     if is_open_account(fields, orders, template) {
-        return Some(Open::Account);
+        return Some(OpenPart::Account);
     }
     if is_open_process(template) {
-        return Some(Open::Process);
+        return Some(OpenPart::Process);
     }
     None
 }
 
 // The fault of what is left open.
-fn open_fault(left: Open, step: usize, segment: usize) -> PlanFault
+fn open_fault(left: OpenPart, step: usize, segment: usize) -> PlanFault
     ensures { result ≡ open_fault left step segment }
 {
     match left {
-        Open::Account => PlanFault::OpenAccount { step, segment },
-        Open::Process => PlanFault::OpenProcess { step, segment },
+        OpenPart::Account => PlanFault::OpenAccount { step, segment },
+        OpenPart::Process => PlanFault::OpenProcess { step, segment },
     }
 }
 

@@ -14,7 +14,9 @@ use fints_script_cases::{
 use fints_script_fields::Name;
 use fints_script_rows::FaultKind;
 use fints_script_rows::limits::MAX_WEIGHT;
-use fints_script_templates::weights::{Figures, has_too_many_items, spend_segment, spend_signer};
+use fints_script_templates::weights::{
+    FieldWeight, has_too_many_items, spend_segment, spend_signer,
+};
 use fints_script_templates::{Signer, Template, TemplateElements};
 use fints_syntax::Memory;
 use std::alloc::Global;
@@ -22,11 +24,11 @@ use std::marker::Model;
 
 /// What a step sends, in the order of its keys: its name, its segments, whether it is sealed, and its
 /// signers.
-pub type Sent = (((Name, Vec<Template>), bool), Vec<usize>);
+pub type SentParts = (((Name, Vec<Template>), bool), Vec<usize>);
 
 /// The parts of a step: what it sends, then how often it is sent in a row at most, its branches, and
 /// its default.
-pub type Parts = (((Sent, u16), Vec<Branch>), Target);
+pub type Parts = (((SentParts, u16), Vec<Branch>), Target);
 
 /// A step of a script: its segments, who signs them, and where answers lead; a contract sees its
 /// parts.
@@ -174,7 +176,7 @@ impl Step {
     }
 }
 
-fn spend_templates(allowance: u64, figures: &[Figures], templates: &[Template]) -> Option<u64>
+fn spend_templates(allowance: u64, figures: &[FieldWeight], templates: &[Template]) -> Option<u64>
     ensures { Spends allowance (total (λ t. segment_weight figures.now t.elements) templates.now) result }
 {
     let mut left = allowance;
@@ -206,7 +208,7 @@ fn spend_signatures(allowance: u64, around: &Around<'_, '_>, places: &[usize]) -
 
 fn spend_seal(
     left: u64,
-    figures: &[Figures],
+    figures: &[FieldWeight],
     sealed: bool,
     seal: Option<&TemplateElements>,
 ) -> Option<u64>
@@ -226,7 +228,7 @@ fn spend_step(left: u64, around: &Around<'_, '_>, step: &Step) -> Option<u64>
     spend_seal(left, around.figures, step.sealed(), around.seal)
 }
 
-fn has_large_segment(figures: &[Figures], templates: &[Template]) -> bool
+fn has_large_segment(figures: &[FieldWeight], templates: &[Template]) -> bool
     ensures { result ≡ has_large_segment figures.now templates.now }
 {
     templates

@@ -7,7 +7,7 @@ use Rattle.fints_script_cases.specs.Answers.{IsAnswer}
 use Rattle.fints_script_cases.specs.Cases.{field_text, answer_text, case_text, IsNamedValue}
 use Rattle.fints_script_cases.specs.declared.values.NamedValue.{NamedValue}
 use Rattle.fints_script_cases.specs.declared.case_reading.CaseLine.{CaseLine}
-use Rattle.fints_script_cases.specs.declared.case_reading.Taken.{Taken}
+use Rattle.fints_script_cases.specs.declared.case_reading.CaseSoFar.{CaseSoFar}
 use Rattle.fints_syntax_texts.specs.declared.lines.TheConstants.{MAX_TEXT}
 use Rattle.fints_script_cases.specs.declared.case_reading.CaseLine.TheVariants.{Field, Reply}
 
@@ -55,6 +55,6 @@ pub record IsBegun (values : List NamedValue) (answers : List (List ℕ)) : Type
   pub short : length (case_text values answers) ≤ MAX_TEXT
 
 -- a text may go on after what was taken, in whose names each name is looked up
-pub record IsReady (taken : Taken) : Type 0 where
+pub record IsReady (taken : CaseSoFar) : Type 0 where
   pub begun : IsBegun taken.case.values taken.case.answers.items
   pub names : HoldsNames (value_names taken.case.values) taken.names

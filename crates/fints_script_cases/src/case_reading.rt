@@ -147,13 +147,13 @@ fn is_dialog(name: Name) -> bool
 
 /// The case so far, and the names in it, in which one is looked up without a walk over its values.
 #[derive(Drop)]
-pub struct Taken {
+pub struct CaseSoFar {
     case: Case,
     names: BTreeSet<Name>,
 }
 
 /// Whether no value has the name.
-fn is_new(taken: &Taken, name: Name) -> bool
+fn is_new(taken: &CaseSoFar, name: Name) -> bool
     requires { HoldsNames (value_names taken.now.case.values) taken.now.names }
     ensures { IsTrue result ↔ All (λ pair. pair.name ≢ name) taken.now.case.values }
 {
@@ -161,7 +161,7 @@ fn is_new(taken: &Taken, name: Name) -> bool
 }
 
 /// Whether the line may come after what the case holds.
-fn is_next(taken: &Taken, line: &CaseLine) -> bool
+fn is_next(taken: &CaseSoFar, line: &CaseLine) -> bool
     requires { HoldsNames (value_names taken.now.case.values) taken.now.names }
     ensures { IsTrue result ↔ IsNext taken.now.case.values taken.now.case.answers.items line.now }
 {
@@ -176,7 +176,7 @@ fn is_next(taken: &Taken, line: &CaseLine) -> bool
     }
 }
 
-fn add(taken: &mut Taken, line: CaseLine) -> Result<(), Memory>
+fn add(taken: &mut CaseSoFar, line: CaseLine) -> Result<(), Memory>
     requires { HoldsNames (value_names taken.old.case.values) taken.old.names }
     ensures values { OnOk result (taken.new.case.values ≡ values_with taken.old.case.values line) }
     ensures answers { OnOk result
@@ -193,7 +193,7 @@ fn add(taken: &mut Taken, line: CaseLine) -> Result<(), Memory>
     Ok(())
 }
 
-impl LineTaker for Taken {
+impl LineTaker for CaseSoFar {
     ghost use Rattle.fints_script_cases.specs.Cases.{case_lines, AreCaseLines};
     ghost use Rattle.fints_script_cases.specs.CaseReading.{IsReady};
 
@@ -226,7 +226,7 @@ impl Case {
         ensures case { IfOk result (λ case. IsCaseOf text.now case.values case.answers.items) }
         ensures refusal { IfErr result (IsCaseFault text.now) }
     {
-        let mut taken = Taken {
+        let mut taken = CaseSoFar {
             case: Case {
                 values: Values::new(alloc),
                 answers: Vec::new(alloc),

@@ -14,28 +14,28 @@ use std::alloc::Global;
 /// How many bytes the longest value of a field takes when it is written, and how many items its
 /// value with the most items has.
 #[derive(Clone, Copy, PartialEq, Eq)]
-pub struct Figures {
+pub struct FieldWeight {
     pub written: u64,
     pub items: u32,
 }
 
-const NO_FIGURES: Figures = Figures {
+const NO_FIGURES: FieldWeight = FieldWeight {
     written: 0,
     items: 0,
 };
 
 // The figures of a field.
-fn figures_of(field: &NamedField) -> Figures
+fn figures_of(field: &NamedField) -> FieldWeight
     ensures { result ≡ figures_of field.now }
 {
-    Figures {
+    FieldWeight {
         written: field.class.longest_written(),
         items: field.class.most_items(),
     }
 }
 
 /// The figures of each field, in order.
-pub fn all_figures(alloc: Global, fields: &[NamedField]) -> Result<Vec<Figures>, Memory>
+pub fn all_figures(alloc: Global, fields: &[NamedField]) -> Result<Vec<FieldWeight>, Memory>
     ensures { IfOk result (λ v. v.items ≡ map figures_of fields.now) }
 {
     let mut figures = Vec::new(alloc);
@@ -45,7 +45,7 @@ pub fn all_figures(alloc: Global, fields: &[NamedField]) -> Result<Vec<Figures>,
     Ok(figures)
 }
 
-fn figures_at(figures: &[Figures], place: usize) -> Figures
+fn figures_at(figures: &[FieldWeight], place: usize) -> FieldWeight
     ensures { result ≡ get_or figures.now place no_figures }
 {
     figures.get(place).copied().unwrap_or(NO_FIGURES)
@@ -61,7 +61,7 @@ fn spend_binary(left: u64, len: usize) -> Option<u64>
 }
 
 // What is left of an allowance after an item.
-fn spend_item(left: u64, figures: &[Figures], item: &TemplateItem) -> Option<u64>
+fn spend_item(left: u64, figures: &[FieldWeight], item: &TemplateItem) -> Option<u64>
     ensures { Spends left (item_weight figures.now item.now) result }
 {
     let left = left.checked_sub(1)?;
@@ -75,7 +75,7 @@ fn spend_item(left: u64, figures: &[Figures], item: &TemplateItem) -> Option<u64
     }
 }
 
-fn spend_element(allowance: u64, figures: &[Figures], items: &[TemplateItem]) -> Option<u64>
+fn spend_element(allowance: u64, figures: &[FieldWeight], items: &[TemplateItem]) -> Option<u64>
     ensures { Spends allowance (element_weight figures.now items.now) result }
 {
     let mut left = allowance;
@@ -88,7 +88,7 @@ fn spend_element(allowance: u64, figures: &[Figures], items: &[TemplateItem]) ->
 /// What is left of an allowance after a segment of these elements.
 pub fn spend_segment(
     allowance: u64,
-    figures: &[Figures],
+    figures: &[FieldWeight],
     elements: &TemplateElements,
 ) -> Option<u64>
     ensures { Spends allowance (segment_weight figures.now elements.now) result }
@@ -101,14 +101,14 @@ pub fn spend_segment(
 }
 
 /// What is left of an allowance after the segments of a signer.
-pub fn spend_signer(left: u64, figures: &[Figures], signer: &Signer) -> Option<u64>
+pub fn spend_signer(left: u64, figures: &[FieldWeight], signer: &Signer) -> Option<u64>
     ensures { Spends left (signer_weight figures.now signer.now) result }
 {
     let left = spend_segment(left, figures, &signer.head)?;
     spend_segment(left, figures, &signer.end)
 }
 
-fn item_count(figures: &[Figures], item: &TemplateItem) -> u64
+fn item_count(figures: &[FieldWeight], item: &TemplateItem) -> u64
     ensures { result ≡ item_count figures.now item.now }
 {
     match item {
@@ -117,7 +117,7 @@ fn item_count(figures: &[Figures], item: &TemplateItem) -> u64
     }
 }
 
-fn spend_items(allowance: u64, figures: &[Figures], items: &[TemplateItem]) -> Option<u64>
+fn spend_items(allowance: u64, figures: &[FieldWeight], items: &[TemplateItem]) -> Option<u64>
     ensures { Spends allowance (element_count figures.now items.now) result }
 {
     let mut left = allowance;
@@ -131,7 +131,7 @@ fn spend_items(allowance: u64, figures: &[Figures], items: &[TemplateItem]) -> O
 /// most items.
 pub fn spend_elements(
     allowance: u64,
-    figures: &[Figures],
+    figures: &[FieldWeight],
     elements: &TemplateElements,
 ) -> Option<u64>
     ensures { Spends allowance (most_items figures.now elements.now) result }
@@ -145,7 +145,7 @@ pub fn spend_elements(
 
 /// Whether the elements have more items than a list may, a field counting as its value with the
 /// most items.
-pub fn has_too_many_items(figures: &[Figures], elements: &TemplateElements) -> bool
+pub fn has_too_many_items(figures: &[FieldWeight], elements: &TemplateElements) -> bool
     ensures { IsTrue result ↔ (MAX_TEMPLATE_ITEMS < most_items figures.now elements.now) }
 {
     spend_elements(MAX_TEMPLATE_ITEMS, figures, elements).is_none()

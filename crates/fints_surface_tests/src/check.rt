@@ -87,7 +87,7 @@ fn is_row_by(alloc: Global, params: &Params, script: &Script, row: Row<'_>) -> R
     is_row(alloc, asked, row)
 }
 
-// Whether the script by the capture does what stands in the row.
+// Whether the script by the capture does what is in the row.
 fn is_row_of(alloc: Global, capture: &[u8], script: &[u8], row: Row<'_>) -> Result<bool, Fail> {
     let params = Params::read(alloc, capture)?;
     let script = Script::read(alloc, script)?;

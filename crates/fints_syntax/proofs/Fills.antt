@@ -7,7 +7,7 @@ use Rattle.fints_syntax_segments.specs.Segment.{Token, element_tokens, segment_t
 use Rattle.fints_syntax.specs.Reader.{read_elements}
 use Rattle.fints_syntax.specs.Owned.{owned_item_of}
 use Rattle.fints_syntax.specs.Cursor.{IsRun, IsTaken, after_element}
-use Rattle.fints_syntax.specs.declared.cursor.Found.{Found}
+use Rattle.fints_syntax.specs.declared.cursor.NextItem.{NextItem}
 use Rattle.fints_syntax_segments.specs.declared.item.OwnedItem.{OwnedItem}
 use Rattle.fints_syntax.proofs.Tokens.{IsClosed, elements_in-tokens}
 use Rattle.fints_syntax.proofs.Cursors.{closed_run}
@@ -58,7 +58,7 @@ filled_start (t ∷ ts) h =
     record { closed = inl (closed_run t ts h); values = none_read (values_of (read_elements (t ∷ ts))) }
 
 pub filled_colon : (all : List (List OwnedItem)) (old new : List Token) (elements : List (List OwnedItem))
-    (items : List OwnedItem) (f : Found) → Filled all old elements items → IsTaken old f new → f.after ≡ 58
+    (items : List OwnedItem) (f : NextItem) → Filled all old elements items → IsTaken old f new → f.after ≡ 58
     → Filled all new elements (items ++ owned_item_of f.item ∷ [])
 filled_colon all old new elements items f h t q =
     let c : IsClosed (t.token ∷ new) ⊎ (((t.token ∷ new) ≡ []) × (items ≡ [])) = rw t.split at h.closed in
@@ -71,7 +71,7 @@ filled_colon all old new elements items f h t q =
     record { closed = inl (closed_colon t.token new c a); values = ap (λ (x : List (List OwnedItem)). elements ++ x) (sym move) ∙ h.values }
 
 pub filled_other : (all : List (List OwnedItem)) (old new : List Token) (elements : List (List OwnedItem))
-    (items : List OwnedItem) (f : Found) → Filled all old elements items → IsTaken old f new → f.after ≢ 58
+    (items : List OwnedItem) (f : NextItem) → Filled all old elements items → IsTaken old f new → f.after ≢ 58
     → Filled all new (elements ++ (items ++ owned_item_of f.item ∷ []) ∷ []) []
 filled_other all old new elements items f h t q =
     let c : IsClosed (t.token ∷ new) ⊎ (((t.token ∷ new) ≡ []) × (items ≡ [])) = rw t.split at h.closed in

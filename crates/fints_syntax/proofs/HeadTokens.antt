@@ -10,7 +10,7 @@ use Rattle.fints_syntax.specs.Reader.{read_segment}
 use Rattle.fints_syntax.specs.Window.{IsFrameText}
 use Rattle.fints_syntax.specs.ItemIs.{value_of_item}
 use Rattle.fints_syntax.specs.Cursor.{IsTaken, front, front_values}
-use Rattle.fints_syntax.specs.declared.cursor.Found.{Found}
+use Rattle.fints_syntax.specs.declared.cursor.NextItem.{NextItem}
 use Rattle.fints_syntax.proofs.HeadItems.{same_value}
 
 front_one : (end : ℕ) (e : List Spelled) (ts : List Token) → 0 < length e → eqb end 58 ≡ false
@@ -45,14 +45,14 @@ head_read source tokens f e = head_front (read_segment source) f.framed.nonempty
 pub values_end : (ts : List Token) → ts ≡ [] → front_values ts ≡ []
 values_end ts e = ap front_values e
 
-pub values_colon : (old new : List Token) (f : Found) → IsTaken old f new → f.after ≡ 58
+pub values_colon : (old new : List Token) (f : NextItem) → IsTaken old f new → f.after ≡ 58
     → front_values old ≡ value_of_item f.item ∷ front_values new
 values_colon old new f t q =
     let b : eqb t.token.after 58 ≡ true = eq-eqb t.token.after 58 (sym t.after ∙ q) in
     let v = same_value f.item t.token.item t.item in
     ap front_values t.split ∙ rw (b, v) refl
 
-pub values_other : (old new : List Token) (f : Found) → IsTaken old f new → f.after ≢ 58
+pub values_other : (old new : List Token) (f : NextItem) → IsTaken old f new → f.after ≢ 58
     → front_values old ≡ value_of_item f.item ∷ []
 values_other old new f t q =
     let b : eqb t.token.after 58 ≡ false = ne_eqb t.token.after 58 (λ e. q (t.after ∙ e)) in
@@ -60,7 +60,7 @@ values_other old new f t q =
     ap front_values t.split ∙ rw (b, v) refl
 
 -- at least one more
-pub values_more : (old new : List Token) (f : Found) → IsTaken old f new
+pub values_more : (old new : List Token) (f : NextItem) → IsTaken old f new
     → (more : List (List ℕ)) × (front_values old ≡ value_of_item f.item ∷ more)
 values_more old new f t =
     let v = same_value f.item t.token.item t.item in

@@ -6,7 +6,7 @@ use Rattle.fints_syntax_segments.specs.declared.limits.TheConstants.{MAX_ITEMS}
 use Rattle.fints_syntax.specs.Reader.{tokens_in}
 use Rattle.fints_syntax.specs.Faults.{IsContinued}
 use Rattle.fints_syntax.specs.ItemIs.{IsItem}
-use Rattle.fints_syntax.specs.declared.cursor.Found.{Found}
+use Rattle.fints_syntax.specs.declared.cursor.NextItem.{NextItem}
 use Rattle.fints_syntax.specs.declared.cursor.Cursor.TheInside.{Inside}
 
 -- nothing, or items that separators follow, and `'` the last
@@ -24,7 +24,7 @@ pub record IsCursor (c : Inside) : Type 0 where
   pub few : length (tokens_in (length c.rest.now) c.rest.now) ≤ MAX_ITEMS
 
 -- the first item that was left is found, and the others are left
-pub record IsTaken (old : List Token) (f : Found) (new : List Token) : Type 0 where
+pub record IsTaken (old : List Token) (f : NextItem) (new : List Token) : Type 0 where
   pub token : Token
   pub split : old ≡ token ∷ new
   pub item : IsItem f.item token.item

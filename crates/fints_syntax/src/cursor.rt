@@ -12,7 +12,7 @@ use std::marker::Model;
 
 /// An item, and the byte after it: `:`, `+` or `'`.
 #[derive(Drop)]
-pub struct Found<'a> {
+pub struct NextItem<'a> {
     pub item: Item<'a>,
     pub after: u8,
 }
@@ -88,7 +88,7 @@ impl<'a> Cursor<'a> {
 
     /// The next item.
     #[inline(always)]
-    pub fn step(&mut self) -> Option<Found<'a>>
+    pub fn step(&mut self) -> Option<NextItem<'a>>
         ensures end { IfNone result ((self.old ≡ []) × (self.new ≡ [])) }
         ensures taken { IfSome result (λ f. IsTaken self.old f self.new) }
     {
@@ -100,7 +100,7 @@ impl<'a> Cursor<'a> {
                 let (bytes, _) = self.rest.split_at(len);
                 let (_, rest) = self.rest.split_at(len + 1);
                 self.rest = rest;
-                Some(Found {
+                Some(NextItem {
                     item: item_from(bytes),
                     after,
                 })

@@ -6,7 +6,7 @@ ghost use Rattle.fints_syntax.specs.Feeding.{unfed, IsGiven, IsNotGiven, IsEnded
 
 use crate::buffer::StreamBuffer;
 use crate::fault::{SyntaxFault, SyntaxKind};
-use crate::taken::Taken;
+use crate::taken::TakenSegments;
 use fints_syntax_segments::OwnedSegment;
 use std::alloc::Global;
 use std::marker::Model;
@@ -57,7 +57,7 @@ impl Feeder {
         if let Some(fault) = self.buffer.failure() {
             return Err(fault);
         }
-        let mut taken = Taken::new(self.alloc);
+        let mut taken = TakenSegments::new(self.alloc);
         match self.buffer.feed(piece, &mut taken) {
             Ok(()) => {
                 self.buffer.drop_whole();

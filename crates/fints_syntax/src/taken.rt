@@ -9,24 +9,24 @@ use std::alloc::Global;
 
 /// Segments by their values, and the place of each.
 #[derive(Drop)]
-pub struct Taken {
+pub struct TakenSegments {
     pub segments: Vec<OwnedSegment>,
     pub places: Vec<usize>,
 }
 
-impl Taken {
+impl TakenSegments {
     /// No segment.
-    pub fn new(alloc: Global) -> Taken
+    pub fn new(alloc: Global) -> TakenSegments
         ensures { AreTaken [] result }
     {
-        Taken {
+        TakenSegments {
             segments: Vec::new(alloc),
             places: Vec::new(alloc),
         }
     }
 }
 
-impl Taker for Taken {
+impl Taker for TakenSegments {
     ghost good = { AreTaken };
 
     fn take(&mut self, start: usize, segment: &SegmentView<'_>) -> Result<(), Memory> {

@@ -26,7 +26,7 @@ use Rattle.fints_script_templates.specs.declared.template.Template.{Template}
 use Rattle.fints_script_templates.specs.declared.template.TemplateItem.{TemplateItem}
 use Rattle.fints_script_templates.specs.declared.template.TemplateItem.TheVariants as items
 use Rattle.fints_script_cases.specs.declared.values.NamedValue.{NamedValue}
-use Rattle.fints_script_templates.specs.declared.weights.Figures.{Figures}
+use Rattle.fints_script_templates.specs.declared.weights.FieldWeight.{FieldWeight}
 use Rattle.fints_wire.specs.Filling.{FillingValue, filled_element, filled_elements, filled_item, filling_of, items_of_fields}
 use Rattle.fints_wire.specs.Messages.{end_template, head_template, no_signer, seal_of, signer_at, signers_of, templates_of}
 
@@ -57,17 +57,17 @@ tokens-len s = segment_tokens-len (written_tree s) ∙ written-len (segment_valu
 -- ---- fillings
 
 -- nothing has more items than the figures say
-pub record IsFew (filling : FillingValue) (figures : List Figures) : Type 0 where
+pub record IsFew (filling : FillingValue) (figures : List FieldWeight) : Type 0 where
   pub dialog : length filling.dialog ≤ 1
   pub fields : (i : ℕ) → length (get_or filling.fields i []) ≤ (get_or figures i no_figures).items
 
-item_few : (filling : FillingValue) (figures : List Figures) (t : TemplateItem) → IsFew filling figures
+item_few : (filling : FillingValue) (figures : List FieldWeight) (t : TemplateItem) → IsFew filling figures
     → length (filled_item filling t) ≤ item_count figures t
 item_few filling figures (items.Literal item) h = omega arith
 item_few filling figures items.Dialog h = h.dialog
 item_few filling figures (items.Field f) h = h.fields f
 
-element_few : (filling : FillingValue) (figures : List Figures) (e : List TemplateItem)
+element_few : (filling : FillingValue) (figures : List FieldWeight) (e : List TemplateItem)
     → IsFew filling figures → length (filled_element filling e) ≤ element_count figures e
 element_few filling figures [] h = omega arith
 element_few filling figures (t ∷ ts) h =
@@ -75,7 +75,7 @@ element_few filling figures (t ∷ ts) h =
     let ih = element_few filling figures ts h in
     omega (arith, length-append (filled_item filling t) (filled_element filling ts))
 
-elements_few : (filling : FillingValue) (figures : List Figures) (es : List (List TemplateItem))
+elements_few : (filling : FillingValue) (figures : List FieldWeight) (es : List (List TemplateItem))
     → IsFew filling figures → total length (filled_elements filling es) ≤ most_items figures es
 elements_few filling figures [] h = omega arith
 elements_few filling figures (e ∷ es) h =
@@ -109,7 +109,7 @@ module _ (script : ScriptValue) (values : List NamedValue) (number : ℕ) (sound
   abbrev filling : FillingValue
   filling = filling_of script.fields values number
 
-  abbrev figures : List Figures
+  abbrev figures : List FieldWeight
   figures = map figures_of script.fields
 
   choice_few : IsFew filling figures

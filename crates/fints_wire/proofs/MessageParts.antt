@@ -13,8 +13,8 @@ use Rattle.fints_syntax_segments.specs.declared.item.OwnedSegment.{OwnedSegment}
 use Rattle.fints_rules_messages.specs.Messages.{IsFirst, IsInner, IsLast, IsNumbered, Seals}
 use Rattle.fints_rules_messages.specs.Parts.{part_of}
 use Rattle.fints_rules_messages.specs.Segments.{IsText}
-use Rattle.fints_rules_messages.specs.declared.part.Part.{Part}
-use Rattle.fints_rules_messages.specs.declared.part.Part.TheVariants.{Opener, Body, Ender}
+use Rattle.fints_rules_messages.specs.declared.part.MessagePart.{MessagePart}
+use Rattle.fints_rules_messages.specs.declared.part.MessagePart.TheVariants.{Opener, Body, Ender}
 use Rattle.fints_script.specs.Scripts.{ScriptValue}
 use Rattle.fints_script.specs.Sound.{IsSoundStep}
 use Rattle.fints_script.specs.Steps.{StepValue}
@@ -44,10 +44,10 @@ module _ (filling : FillingValue) where
   filled_numbered n (t ∷ ts) last e = (refl, filled_numbered (n + 1) ts last (omega arith))
 
   -- each is of this part, whatever its number
-  abbrev IsPart : Part → Template → Type 0
+  abbrev IsPart : MessagePart → Template → Type 0
   IsPart p t = (n : ℕ) → part_of (filled_segment filling n t) ≡ p
 
-  all_parts : (p : Part) (n : ℕ) (ts : List Template) → All (IsPart p) ts
+  all_parts : (p : MessagePart) (n : ℕ) (ts : List Template) → All (IsPart p) ts
       → AllByRecursion (λ s. part_of s ≡ p) (filled_segments filling n ts)
   all_parts p n [] h = tt
   all_parts p n (t ∷ ts) h = (All-head (IsPart p) t ts h n, all_parts p (n + 1) ts (All-tail (IsPart p) t ts h))

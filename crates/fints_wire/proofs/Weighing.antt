@@ -35,7 +35,7 @@ use Rattle.fints_script_templates.specs.declared.template.Template.{Template}
 use Rattle.fints_script_templates.specs.declared.template.TemplateItem.{TemplateItem}
 use Rattle.fints_script_templates.specs.declared.template.TemplateItem.TheVariants as items
 use Rattle.fints_script_cases.specs.declared.values.NamedValue.{NamedValue}
-use Rattle.fints_script_templates.specs.declared.weights.Figures.{Figures}
+use Rattle.fints_script_templates.specs.declared.weights.FieldWeight.{FieldWeight}
 use Rattle.fints_wire.specs.Filling.{FillingValue, filling_of, items_of_fields}
 use Rattle.fints_wire.specs.Lengths.{element_len, elements_len, head_len, item_len, items_size, longest_size, longest_sizes, message_len, middle_len, segments_len, Sizes, sizes_of}
 use Rattle.fints_wire.specs.Messages.{end_template, head_template, message_bytes, message_size, no_signer, seal_of, signer_at, signers_of, templates_of}
@@ -56,17 +56,17 @@ total-map f g (x ∷ xs) = let ih = total-map f g xs in omega arith
 -- ---- items and elements
 
 -- nothing counts for more than it weighs
-pub record IsWithin (sizes : Sizes) (figures : List Figures) : Type 0 where
+pub record IsWithin (sizes : Sizes) (figures : List FieldWeight) : Type 0 where
   pub dialog : sizes.dialog ≤ 61
   pub fields : (i : ℕ) → get_or sizes.fields i 0 ≤ 1 + (get_or figures i no_figures).written
 
-item_light : (sizes : Sizes) (figures : List Figures) (t : TemplateItem) → IsWithin sizes figures
+item_light : (sizes : Sizes) (figures : List FieldWeight) (t : TemplateItem) → IsWithin sizes figures
     → item_len sizes t ≤ item_weight figures t
 item_light sizes figures (items.Literal item) h = omega arith
 item_light sizes figures items.Dialog h = h.dialog
 item_light sizes figures (items.Field f) h = h.fields f
 
-elements_light : (sizes : Sizes) (figures : List Figures) (es : List (List TemplateItem))
+elements_light : (sizes : Sizes) (figures : List FieldWeight) (es : List (List TemplateItem))
     → IsWithin sizes figures → elements_len sizes es ≤ total (element_weight figures) es
 elements_light sizes figures es h =
     total_mono (element_len sizes) (element_weight figures) es
@@ -102,10 +102,10 @@ head_light kind n version k small v =
 abbrev pub IsSmall : Template → Type 0
 IsSmall t = IsKindText t.kind × (t.version < 1000)
 
-abbrev template_weight : List Figures → Template → ℕ
+abbrev template_weight : List FieldWeight → Template → ℕ
 template_weight figures t = segment_weight figures t.elements
 
-segments_light : (sizes : Sizes) (figures : List Figures) (n : ℕ) (ts : List Template)
+segments_light : (sizes : Sizes) (figures : List FieldWeight) (n : ℕ) (ts : List Template)
     → IsWithin sizes figures → All IsSmall ts → n + length ts ≤ 1000
     → segments_len sizes n ts ≤ total (template_weight figures) ts
 segments_light sizes figures n [] w h few = omega arith
@@ -122,7 +122,7 @@ slice_get_in [] i d lt = absurd (omega arith)
 slice_get_in (x ∷ xs) zero d lt = refl
 slice_get_in (x ∷ xs) (suc i) d lt = slice_get_in xs i d (omega arith)
 
-module _ (figures : List Figures) (signers : List Signer) where
+module _ (figures : List FieldWeight) (signers : List Signer) where
   abbrev head_weight : ℕ → ℕ
   head_weight place = segment_weight figures (signer_at signers place).head
 
@@ -139,7 +139,7 @@ module _ (figures : List Figures) (signers : List Signer) where
       let ih = signatures_weight ps (All-tail (λ (place : ℕ). place < length signers) p ps h) in
       omega arith
 
-module _ (script : ScriptValue) (step : StepValue) (figures : List Figures) (h : IsSoundStep script step) where
+module _ (script : ScriptValue) (step : StepValue) (figures : List FieldWeight) (h : IsSoundStep script step) where
   templates_weight : total (template_weight figures) (templates_of script step) ≡ total
       (template_weight figures) step.templates + total (signature_weight figures script.signers) step.signers
   templates_weight =
@@ -169,7 +169,7 @@ module _ (script : ScriptValue) (step : StepValue) (figures : List Figures) (h :
 
 -- ---- messages
 
-middle_light : (sizes : Sizes) (figures : List Figures) (sealed : Bool)
+middle_light : (sizes : Sizes) (figures : List FieldWeight) (sealed : Bool)
     (seal : Option (List (List TemplateItem))) (inner : ℕ) → IsWithin sizes figures → inner < 10 ^ 7
     → middle_len sealed (elements_len sizes (elim seal [ None ↦ [] | Some seal ↦ seal ]))
     inner ≤ inner + seal_weight figures sealed seal + 40
@@ -186,7 +186,7 @@ middle_light sizes figures true (Some seal) inner w small =
     let d = elements_light sizes figures seal w in
     omega arith
 
-seal_light : (sizes : Sizes) (figures : List Figures) (seal : Option (List (List TemplateItem)))
+seal_light : (sizes : Sizes) (figures : List FieldWeight) (seal : Option (List (List TemplateItem)))
     → IsWithin sizes figures
     → elements_len sizes (elim seal [ None ↦ [] | Some seal ↦ seal ]) ≤ seal_weight figures true seal
 seal_light sizes figures None w = omega arith
@@ -203,7 +203,7 @@ pub step_short : (script : ScriptValue) (step : StepValue) (sizes : Sizes) (numb
     → IsSoundStep script step → IsWithin sizes (map figures_of script.fields) → number ≤ MAX_NUMBER
     → IsShort script step sizes number
 step_short script step sizes number h w small =
-    let figures : List Figures = map figures_of script.fields in
+    let figures : List FieldWeight = map figures_of script.fields in
     let parts = has_parts script step in
     let few = h.few_signers in
     let short = h.few_templates in

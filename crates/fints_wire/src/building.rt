@@ -11,7 +11,7 @@ ghost use Rattle.fints_syntax_segments.specs.declared.limits.TheConstants.{MAX_B
 
 use crate::filling::{Filling, filled_elements};
 use crate::frame::{data_segment, first_segment, last_segment, seal_segment, segment};
-use crate::part::{FewParts, Part, part_at, part_count};
+use crate::part::{FewParts, UnfilledSegment, part_at, part_count};
 use fints_script::{Plan, Step, Values};
 use fints_syntax::{Elements, Memory, OwnedSegment, write_segment};
 use std::alloc::Global;
@@ -24,7 +24,7 @@ fn write_part(
     alloc: Global,
     out: &mut Vec<u8>,
     filling: &Filling,
-    part: &Part,
+    part: &UnfilledSegment,
     number: u16,
 ) -> Result<(), Memory>
     requires { AreFilled filling.now part.now.elements }

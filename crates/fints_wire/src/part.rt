@@ -11,13 +11,13 @@ use std::marker::Model;
 
 /// A segment of a step's message before it is filled; a contract sees the template.
 #[derive(Drop)]
-pub struct Part<'a> {
+pub struct UnfilledSegment<'a> {
     pub kind: Kind,
     pub version: u16,
     pub elements: &'a TemplateElements,
 }
 
-impl<'a> Model for Part<'a> {
+impl<'a> Model for UnfilledSegment<'a> {
     ghost use Rattle.fints_script_templates.specs.declared.template.Template.{Template};
 
     ghost Value = { Template };
@@ -37,22 +37,22 @@ fn end_kind() -> Kind
     Kind::parse(b"HNSHA").unwrap()
 }
 
-fn head_part<'a>(signers: &'a [Signer], place: usize) -> Part<'a>
+fn head_part<'a>(signers: &'a [Signer], place: usize) -> UnfilledSegment<'a>
     requires { place < length signers.now }
     ensures { result ≡ head_template (signer_at signers.now place) }
 {
-    Part {
+    UnfilledSegment {
         kind: head_kind(),
         version: HNSHK_VERSION,
         elements: &signers[place].head,
     }
 }
 
-fn end_part<'a>(signers: &'a [Signer], place: usize) -> Part<'a>
+fn end_part<'a>(signers: &'a [Signer], place: usize) -> UnfilledSegment<'a>
     requires { place < length signers.now }
     ensures { result ≡ end_template (signer_at signers.now place) }
 {
-    Part {
+    UnfilledSegment {
         kind: end_kind(),
         version: HNSHA_VERSION,
         elements: &signers[place].end,
@@ -77,7 +77,7 @@ pub fn part_count(few: FewParts<'_>) -> usize
 }
 
 /// The segment at this place, counted from 0.
-pub fn part_at<'a>(plan: &'a Plan, step: &'a Step, i: usize) -> Part<'a>
+pub fn part_at<'a>(plan: &'a Plan, step: &'a Step, i: usize) -> UnfilledSegment<'a>
     requires within { i < length (templates_of plan.now.script step.now) }
     requires signers { All (λ place. place < length plan.now.script.signers) step.now.signers }
     ensures { (none : Template) → result ≡ get_or (templates_of plan.now.script step.now) i none }
@@ -90,7 +90,7 @@ pub fn part_at<'a>(plan: &'a Plan, step: &'a Step, i: usize) -> Part<'a>
     let i = i - places.len();
     if i < templates.len() {
         let template = &templates[i];
-        return Part {
+        return UnfilledSegment {
             kind: template.kind,
             version: template.version,
             elements: &template.elements,

@@ -13,7 +13,7 @@ ghost use Rattle.fints_wire.specs.declared.building.TheConstants.{MAX_NUMBER};
 ghost use Rattle.fints_wire.specs.Messages.{seal_of, templates_of};
 ghost use Rattle.fints_syntax_segments.specs.declared.limits.TheConstants.{MAX_BYTES};
 
-use crate::part::{FewParts, Part, part_at, part_count};
+use crate::part::{FewParts, UnfilledSegment, part_at, part_count};
 use fints_script::{FieldClass, Plan, Step, TemplateItem};
 use fints_syntax::{Kind, OwnedItem, decimal_len, written_binary_len, written_len};
 use fints_syntax_segments::{
@@ -108,7 +108,7 @@ fn head_size(kind: Kind, n: u64, version: u64) -> u64
 }
 
 // What a segment of this number adds to what was counted before it.
-fn count_part(plan: &Plan, number: u32, part: &Part, n: u64, before: u64) -> u64
+fn count_part(plan: &Plan, number: u32, part: &UnfilledSegment, n: u64, before: u64) -> u64
     requires kind { IsKindText part.now.kind }
     requires small { before + segment_len (longest_sizes plan.now.script.fields number) n part.now < 2 ^ 63 }
     ensures { result ≡ before + segment_len (longest_sizes plan.now.script.fields number) n part.now }

@@ -1,6 +1,6 @@
 use Rattle.std.proofs.Common.{List, Option, drop, subst}
 use Rattle.std.specs.Prelude.{option_copied}
-use Rattle.fints_rules_dialogues.specs.declared.messages.Sent.{Sent}
+use Rattle.fints_rules_dialogues.specs.declared.messages.RecordedMessage.{RecordedMessage}
 use Rattle.fints_rules_dialogues.specs.declared.reading.Exchange.{Exchange}
 use Rattle.fints_rules_dialogues.specs.Auditing.{IsAuditedNext, IsExchangeOrNone}
 use Rattle.fints_rules_dialogues.specs.Dialogues.{BeginsWithOne, IsExchange}
@@ -15,7 +15,7 @@ loop-at-preserved g c =
     let messages = c.messages-messages.result.now in
     let same = c.as_ref-earlier.ensures.value in
     let begins : BeginsWithOne (option_copied c.as_ref-earlier.result) (drop c.loop-at.at messages) e =
-    subst (λ (xs : List Sent). BeginsWithOne (option_copied c.as_ref-earlier.result) xs e) c.split_at.ensures.back
+    subst (λ (xs : List RecordedMessage). BeginsWithOne (option_copied c.as_ref-earlier.result) xs e) c.split_at.ensures.back
     c.in_ok-exchange.ensures.exchange in
     rw (c.in_ok-push.ensures.items, c.message_count-at.ensures)
     (one_audited granted messages c.loop-at.at c.loop-at.before c.loop-at.audited.items e a c.loop-at.invariant

@@ -1,6 +1,6 @@
 use Rattle.std.proofs.Common.{[], ◌∷◌, ◌++◌, take, sym, subst, ◌∙◌, arith, ap}
 use Rattle.std.proofs.lemmas.List.{take_all, take_more}
-use Rattle.fints_rules_dialogues.specs.declared.messages.Sent.{Sent}
+use Rattle.fints_rules_dialogues.specs.declared.messages.RecordedMessage.{RecordedMessage}
 use Rattle.fints_rules_dialogues.proofs.SentLemmas.{below_more, none_of_none, sent_more, AreSentAs}
 use Rattle.fints_rules_dialogues.proofs.messages.sents_of.Goals as goal
 
@@ -9,7 +9,7 @@ loop-found-preserved c =
     let all = c.messages-found-items.result.now in
     let i = c.loop-found.found-index in
     let item = c.found-item.result in
-    let sent : Sent = record { start = c.start.result; bytes = c.bytes.result } in
+    let sent : RecordedMessage = record { start = c.start.result; bytes = c.bytes.result } in
     let more = take_more all i item c.loop-found-test.true ∙ ap (λ x. take i all ++ x ∷ []) (sym c.found-item.is) in
     record {
       sent =

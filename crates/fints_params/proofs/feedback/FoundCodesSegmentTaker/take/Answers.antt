@@ -6,7 +6,7 @@ use Rattle.fints_params.specs.Faults.{IsBad, IsMemoryOr}
 use Rattle.fints_params.specs.Steps.{Continues, StopsIn}
 use Rattle.fints_params.specs.Taken.{CodesSoFar}
 use Rattle.fints_params.proofs.FoundCodes.{codes_more, codes_stop}
-use Rattle.fints_params.proofs.feedback.FoundSegmentTaker.take.Goals as goal
+use Rattle.fints_params.proofs.feedback.FoundCodesSegmentTaker.take.Goals as goal
 
 both : {T E : Type 0} {P Q R : T → Type 0} → (r : Result T E) → ((x : T) → P x → Q x → R x) → IfOk r P
     → IfOk r Q → IfOk r R

@@ -1,7 +1,7 @@
 use Rattle.std.proofs.Common.{sym}
 use Rattle.fints_syntax.specs.Owned.{segment_of}
 use Rattle.fints_params.proofs.FoundCodes.{found_glanced}
-use Rattle.fints_params.proofs.feedback.FoundSegmentTaker.glance.Goals as goal
+use Rattle.fints_params.proofs.feedback.FoundCodesSegmentTaker.glance.Goals as goal
 
 pub returns-then-not-is_feedback_view : goal.returns-then-not-is_feedback_view
 returns-then-not-is_feedback_view c =

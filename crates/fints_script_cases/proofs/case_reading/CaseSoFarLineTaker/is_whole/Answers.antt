@@ -1,7 +1,7 @@
 use Rattle.std.proofs.Common.{◌<◌, length, arith}
 use Rattle.std.proofs.lemmas.Bool.Decides.{nat_tests}
 use Rattle.fints_script_cases.proofs.CaseReads.{is_case, lines_of, some_fields}
-use Rattle.fints_script_cases.proofs.case_reading.TakenLineTaker.is_whole.Goals as goal
+use Rattle.fints_script_cases.proofs.case_reading.CaseSoFarLineTaker.is_whole.Goals as goal
 
 pub returns : goal.returns
 returns c =

@@ -1,7 +1,7 @@
 use Rattle.std.proofs.Common.{◌<◌, length, arith}
 use Rattle.std.proofs.lemmas.Bool.Decides.{nat_tests}
 use Rattle.fints_check.proofs.CertReads.{is_certificate, lines_of, some_lines}
-use Rattle.fints_check.proofs.reading.TakenLineTaker.is_whole.Goals as goal
+use Rattle.fints_check.proofs.reading.LinesSoFarLineTaker.is_whole.Goals as goal
 
 pub returns : goal.returns
 returns c =

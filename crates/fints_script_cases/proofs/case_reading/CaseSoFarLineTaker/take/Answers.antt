@@ -1,6 +1,6 @@
 use Rattle.std.proofs.lemmas.Bool.{both_ways}
 use Rattle.fints_script_cases.proofs.CaseReads.{begins, grown_by, no_line, not_next}
-use Rattle.fints_script_cases.proofs.case_reading.TakenLineTaker.take.Goals as goal
+use Rattle.fints_script_cases.proofs.case_reading.CaseSoFarLineTaker.take.Goals as goal
 
 pub returns-in_default-clause-refused : goal.returns-in_default-clause-refused
 returns-in_default-clause-refused c _ =

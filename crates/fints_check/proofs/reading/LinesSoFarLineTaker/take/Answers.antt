@@ -6,7 +6,7 @@ use Rattle.fints_check.specs.CertTexts.{AreCertLines, cert_lines}
 use Rattle.fints_check.specs.CertReading.{IsNew}
 use Rattle.fints_check_findings.proofs.CaseLemmas.{if_ok}
 use Rattle.fints_check.proofs.CertReads.{begins, grown_by, no_line, not_new}
-use Rattle.fints_check.proofs.reading.TakenLineTaker.take.Goals as goal
+use Rattle.fints_check.proofs.reading.LinesSoFarLineTaker.take.Goals as goal
 
 -- what follows from two facts of an answer
 if_both : {X E : Type 0} (P Q R : X → Type 0) (r : Result X E) → ((x : X) → P x → Q x → R x) → IfOk r P

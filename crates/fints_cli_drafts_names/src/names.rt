@@ -1,8 +1,8 @@
 //! Whether the names of a draft are made of constants, numbers and kinds of segments only.
 ghost use Rattle.std.specs.Prelude.{◌≡◌, ◌≤◌, ◌⊎◌, ℕ, Any, IsTrue, codes};
-ghost use Rattle.fints_cli_drafts.specs.Drafts.{IsBinWord, IsFieldName, IsNameAfter, IsNameFor, IsNumbered, IsSignerName, IsStepName, IsWord, SpellsKind};
+ghost use Rattle.fints_cli_drafts_names.specs.Names.{IsBinWord, IsFieldName, IsNameAfter, IsNameFor, IsNumbered, IsSignerName, IsStepName, IsWord, SpellsKind};
 
-use crate::fields::Purpose;
+use crate::purposes::Purpose;
 use fints_script::{Signer, Step, Template};
 use fints_syntax_segments::FaultText;
 use fints_syntax_texts::after;
