@@ -24,14 +24,16 @@ use crate::loading::Contents;
 use crate::reasons::Reasons;
 use fints_cli_drafts::{DraftText, Drafted, draft_read};
 use fints_cli_drawings::{draw_read, draw_script};
-use fints_cli_hints_dialogues::{AuditReasons, Source};
+use fints_cli_hints::DraftHint;
+use fints_cli_hints_dialogues::{AuditReasons, ReadLog, Source, dialogue_hint};
 use fints_cli_hints_reasons::JudgeReasons;
 use fints_cli_hints_segments::{UnreadHint, skipped_notes};
 use fints_cli_hints_verdicts::{ReportReasons, VerifyReason};
 use fints_cli_records::{Record, log_note, record_read};
 use fints_cli_scripts::{Wanted, run_case, tell_read, verify_read};
 use fints_cli_texts::{
-    Fault, Reply, audit_own, audit_read, judge_after_read, judge_read, show_message_with, show_read,
+    Fault, Reply, audit_own, audit_read, good_log, judge_after_read, judge_read, show_message_with,
+    show_read,
 };
 use fints_params::{ParamFault, Params};
 use fints_rules_dialogues::{DialogueFault, Log, read_log};
@@ -95,6 +97,34 @@ fn note_of(
         },
         Err(_) => Ok(String::new(alloc)),
     }
+}
+
+// The refusal of a recording. Where a hint is wanted, it is made of the log that was read, and of what was said of
+// its messages.
+fn refused_log(
+    alloc: Global,
+    fault: Fault,
+    log: &Result<Log<'_>, DialogueFault>,
+    contents: &Contents,
+    seen: Option<String>,
+    hints: bool,
+) -> Refused
+    ensures { result.fault ≡ fault }
+{
+    let Fault::Dialogue(refused) = &fault else {
+        return Refused { fault, seen };
+    };
+    let read = ReadLog {
+        file: contents.dialogue.as_slice(),
+        log: good_log(log).ok(),
+    };
+    let seen = if hints {
+        let said = seen.as_ref().map(|text| text.as_str());
+        dialogue_hint(alloc, refused, &read, said).unwrap_or(None)
+    } else {
+        None
+    };
+    Refused { fault, seen }
 }
 
 /// The order table that is taken where none is named.
@@ -167,7 +197,7 @@ pub fn answer_judge(
         }),
         Err(fault) => Err(Refused {
             fault,
-            unread: reasons.into_hint(),
+            seen: reasons.into_hint(),
         }),
     }
 }
@@ -205,7 +235,7 @@ pub fn answer_judge_after(
         }),
         Err(fault) => Err(Refused {
             fault,
-            unread: reasons.into_hint(),
+            seen: reasons.into_hint(),
         }),
     }
 }
@@ -240,10 +270,10 @@ pub fn answer_audit(
             note: note_of(alloc, &log, hints)?,
             reasons: Reasons::of(reasons.into_text()),
         }),
-        Err(fault) => Err(Refused {
-            fault,
-            unread: reasons.into_hint(),
-        }),
+        Err(fault) => {
+            let seen = reasons.into_hint();
+            Err(refused_log(alloc, fault, &log, contents, seen, hints))
+        }
     }
 }
 
@@ -268,10 +298,10 @@ pub fn answer_audit_own(
             note: note_of(alloc, &log, hints)?,
             reasons: Reasons::of(reasons.into_text()),
         }),
-        Err(fault) => Err(Refused {
-            fault,
-            unread: reasons.into_hint(),
-        }),
+        Err(fault) => {
+            let seen = reasons.into_hint();
+            Err(refused_log(alloc, fault, &log, contents, seen, hints))
+        }
     }
 }
 
@@ -387,25 +417,27 @@ pub fn answer_show_message(
         Ok(text) => Ok(text_only(alloc, text)),
         Err(fault) => Err(Refused {
             fault,
-            unread: hint.into_text(),
+            seen: hint.into_text(),
         }),
     }
 }
 
 /// The messages that are in a file, and beside them how many they are, and what is passed over.
-pub fn answer_record(alloc: Global, contents: &Contents) -> Result<Answered, Refused>
+pub fn answer_record(alloc: Global, contents: &Contents, hints: bool) -> Result<Answered, Refused>
     ensures status { IfOk result (λ it. it.reply.status ≡ 0) }
     ensures recorded { IfOk result (λ it. IsRecordOf contents.now.dialogue.items it.reply.text.items) }
     ensures note { IfOk result (λ it. IsRecordNote contents.now.dialogue.items (string_bytes it.note)) }
     ensures refused { IfErr result (λ r. IsRecordRefusal contents.now.dialogue.items r.fault) }
 {
     let log = log_of(alloc, contents);
-    let Record { text, note } = record_read(alloc, &log)?;
-    Ok(Answered {
-        reply: Reply { status: 0, text },
-        note,
-        reasons: None,
-    })
+    match record_read(alloc, &log) {
+        Ok(Record { text, note }) => Ok(Answered {
+            reply: Reply { status: 0, text },
+            note,
+            reasons: None,
+        }),
+        Err(fault) => Err(refused_log(alloc, fault, &log, contents, None, hints)),
+    }
 }
 
 // What is said beside a text of a draft: of the log, and that the case holds a secret.
@@ -441,17 +473,17 @@ pub fn answer_draft(
 {
     let table = contents.orders.as_slice();
     let log = log_of(alloc, contents);
-    let mut hint = UnreadHint::new(alloc, hints);
+    let mut hint = DraftHint::new(alloc, hints);
     match draft_read(alloc, table, &log, number, drafted, &mut hint) {
         Ok(DraftText { text, has_secret }) => Ok(Answered {
             reply: Reply { status: 0, text },
             note: draft_note(alloc, &log, hints, drafted, has_secret)?,
             reasons: None,
         }),
-        Err(fault) => Err(Refused {
-            fault,
-            unread: hint.into_text(),
-        }),
+        Err(fault) => {
+            let seen = hint.into_text();
+            Err(refused_log(alloc, fault, &log, contents, seen, hints))
+        }
     }
 }
 

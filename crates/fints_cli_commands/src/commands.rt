@@ -87,7 +87,7 @@ fn answer(
         Command::JudgeAfter => answer_judge_after(alloc, params, contents, hints),
         Command::Audit => answer_audit(alloc, params, contents, hints),
         Command::AuditOwn => answer_audit_own(alloc, contents, hints),
-        Command::Record => answer_record(alloc, contents),
+        Command::Record => answer_record(alloc, contents, hints),
         Command::Draft => answer_draft(alloc, contents, request.number, Drafted::Script, hints),
         Command::DraftCase => answer_draft(alloc, contents, request.number, Drafted::Case, hints),
         Command::Check => answer_check(alloc, params, contents, Wanted::Report, hints),
@@ -143,8 +143,8 @@ pub fn perform<F: Files>(
                 reasons,
             })
         }
-        Err(Refused { fault, unread }) => {
-            let inputs = contents.inputs(unread.as_ref().map(|text| text.as_str()));
+        Err(Refused { fault, seen }) => {
+            let inputs = contents.inputs(seen.as_ref().map(|text| text.as_str()));
             Err(refusal_of(alloc, fault, &inputs, request.hints))
         }
     }

@@ -54,21 +54,19 @@ impl Failure {
     }
 }
 
-/// Why inputs are refused, and why bytes are no message where that was found and a hint is wanted.
+/// Why inputs are refused, and what was said of a message or a recording where it was refused and a hint is
+/// wanted.
 #[derive(Drop)]
 pub struct Refused {
     pub fault: Fault,
-    pub unread: Option<String>,
+    pub seen: Option<String>,
 }
 
 impl From<Fault> for Refused {
     ghost from_gives = { λ fault r. r.fault ≡ fault };
 
     fn from(fault: Fault) -> Refused {
-        Refused {
-            fault,
-            unread: None,
-        }
+        Refused { fault, seen: None }
     }
 }
 

@@ -71,8 +71,8 @@ pub struct Contents {
 }
 
 impl Contents {
-    /// The bytes for a hint, and why those of a message are none.
-    pub fn inputs<'a>(&'a self, unread: Option<&'a str>) -> Inputs<'a> {
+    /// The bytes for a hint, and what was said of a message or a recording where it was refused.
+    pub fn inputs<'a>(&'a self, seen: Option<&'a str>) -> Inputs<'a> {
         let params = if self.shown.bytes.is_empty() {
             &self.capture
         } else {
@@ -84,11 +84,8 @@ impl Contents {
             script: self.script.as_slice(),
             case: self.case.as_slice(),
             certificate: self.certificate.as_slice(),
-            before: self.before.as_slice(),
             answer: self.answer.as_slice(),
-            message: self.message.as_slice(),
-            dialogue: self.dialogue.as_slice(),
-            unread,
+            seen,
         }
     }
 }

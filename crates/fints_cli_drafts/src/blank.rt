@@ -6,6 +6,7 @@ ghost use Rattle.fints_cli_drafts_accounts.specs.Offers.{AreOffered};
 ghost use Rattle.fints_cli_drafts.specs.Drafts.{HasBlankNewPin, HasBlankPin, IsBlank, IsDraftClass, IsDraftField, IsDraftSigner, IsDraftStep, IsLastBlank, IsReference, KeepsSecrets, has_secret, is_digits, is_draft_text, is_latin, is_secret_field};
 
 use fints_cli_drafts_accounts::{AccountList, are_offered};
+use fints_cli_drafts_names::{is_field_name, is_signer_named, is_step_named};
 use fints_script::{
     Field, NamedField, Script, Signer, Step, Template, TemplateElements, TemplateItem,
 };

@@ -24,6 +24,12 @@ use fints_rules_messages::UnreadObserver;
 use fints_script::{Answer, Case, CaseFault, Values};
 use std::alloc::Global;
 
+/// What looks on while a recording is drafted. No contract says what it makes of it.
+pub trait DraftObserver: UnreadObserver {
+    /// Looks at the exchanges of a recording that has no draft, and at the refusal.
+    fn undrafted(&mut self, exchanges: &[Exchange<'_>], fault: &Fault);
+}
+
 /// Which text of a draft is wanted.
 #[derive(Clone, Copy, PartialEq, Eq)]
 pub enum Drafted {
@@ -173,7 +179,7 @@ fn text_of(draft: Draft, drafted: Drafted) -> DraftText
 }
 
 // The wanted text of the draft of a part.
-fn draft_part(
+fn part_text(
     alloc: Global,
     orders: &OrderTable,
     exchanges: &[Exchange<'_>],
@@ -195,13 +201,35 @@ fn draft_part(
     }
 }
 
+// The same. Where there is none, the observer sees why.
+fn draft_part<O: DraftObserver>(
+    alloc: Global,
+    orders: &OrderTable,
+    exchanges: &[Exchange<'_>],
+    number: Option<u32>,
+    drafted: Drafted,
+    observer: &mut O,
+) -> Result<DraftText, Fault>
+    ensures draft { IfOk result (λ it. IsPartDraft orders.now drafted number exchanges.now it.text.items
+        it.has_secret) }
+    ensures refused { IfErr result (λ f. IsUndrafted exchanges.now number f) }
+{
+    match part_text(alloc, orders, exchanges, number, drafted) {
+        Ok(text) => Ok(text),
+        Err(fault) => {
+            observer.undrafted(exchanges, &fault);
+            Err(fault)
+        }
+    }
+}
+
 /// The script that sends the client's messages of a recorded dialogue once more, or the case that has it
 /// do so, by what was read of a file; of the dialogue of a number, which counts from 1, or else of the whole
 /// recording. In comments the script says which orders name an account, by the text of an order table. Of
 /// the refusals that of the order table comes first, then that of the recording, then that it has no dialogue
 /// of the number, and then that no draft was found, with the first segment that would be sent otherwise.
-/// Where a message of the client is none, the observer sees why.
-pub fn draft_read<O: UnreadObserver>(
+/// Where a message of the client is none, or there is no draft, the observer sees why.
+pub fn draft_read<O: DraftObserver>(
     alloc: Global,
     orders: &[u8],
     log: &Result<Log<'_>, DialogueFault>,
@@ -218,5 +246,12 @@ pub fn draft_read<O: UnreadObserver>(
     let orders = OrderTable::read(alloc, orders)?;
     let log = good_log(log)?;
     let exchanges = read_dialogue_with(alloc, log, observer)?;
-    draft_part(alloc, &orders, exchanges.as_slice(), number, drafted)
+    draft_part(
+        alloc,
+        &orders,
+        exchanges.as_slice(),
+        number,
+        drafted,
+        observer,
+    )
 }

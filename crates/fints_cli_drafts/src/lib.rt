@@ -18,4 +18,4 @@ mod texts;
 mod turns;
 mod within;
 
-pub use drafting::{DraftText, Drafted, draft_read};
+pub use drafting::{DraftObserver, DraftText, Drafted, draft_read};

@@ -66,16 +66,16 @@ pub struct Sketch {
 
 impl Sketch {
     /// The place in the dialogue that a place of the script was drafted from.
-    pub fn source(&self, place: fints_script::SegmentPlace) -> SegmentPlace {
+    pub fn source(&self, place: fints_script::Place) -> SegmentPlace {
         match place {
-            fints_script::SegmentPlace::Step(row) => SegmentPlace::whole(usize::from(row)),
-            fints_script::SegmentPlace::Seal => self.seal_met,
-            fints_script::SegmentPlace::Signer(row) => {
+            fints_script::Place::Step(row) => SegmentPlace::whole(usize::from(row)),
+            fints_script::Place::Seal => self.seal_met,
+            fints_script::Place::Signer(row) => {
                 self.signers
                     .met(usize::from(row))
                     .unwrap_or(SegmentPlace::whole(0))
             }
-            fints_script::SegmentPlace::Top | fints_script::SegmentPlace::Field(_) =>
+            fints_script::Place::Top | fints_script::Place::Field(_) =>
                 SegmentPlace::whole(0),
         }
     }

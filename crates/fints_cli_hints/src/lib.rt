@@ -5,6 +5,7 @@
 mod admitted;
 mod cases;
 mod certs;
+mod drafts;
 mod findings;
 mod labels;
 mod lines;
@@ -13,5 +14,6 @@ mod plans;
 mod runs;
 mod telling;
 
+pub use drafts::DraftHint;
 pub use fints_cli_hints_words::inputs::Inputs;
 pub use telling::hint;

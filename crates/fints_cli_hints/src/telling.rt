@@ -6,7 +6,6 @@ use crate::findings::finding_hint;
 use crate::orders::orders_hint;
 use crate::plans::plan_hint;
 use crate::runs::run_hint;
-use fints_cli_hints_dialogues::{dialogue_hint, draft_hint, part_hint};
 use fints_cli_hints_scripts::script_hint;
 use fints_cli_hints_segments::params_hint;
 use fints_cli_hints_words::inputs::Inputs;
@@ -21,9 +20,9 @@ const BEFORE_ANSWER: &str =
 
 const NO_CODE: &str = "this is no answer of the bank: it has no code in an HIRMG or HIRMS";
 
-// Why the bytes of a message are none, as it was said where they were read.
-fn unread_hint(alloc: Global, unread: Option<&str>) -> HintText {
-    match unread {
+// What was said where an input was read.
+fn seen_hint(alloc: Global, seen: Option<&str>) -> HintText {
+    match seen {
         Some(text) => say(alloc, text),
         None => Ok(None),
     }
@@ -44,14 +43,12 @@ pub fn hint(alloc: Global, fault: &Fault, inputs: &Inputs<'_>) -> Result<Option<
         Fault::NoMessage { number } => run_hint(alloc, *number, inputs.script, inputs.case),
         Fault::NoFinding { number } => finding_hint(alloc, *number),
         Fault::Certificate { line } => cert_hint(alloc, *line, inputs.certificate),
-        Fault::Before { .. } | Fault::Message(_) => unread_hint(alloc, inputs.unread),
+        Fault::Before { .. } | Fault::Message(_) => seen_hint(alloc, inputs.seen),
+        Fault::Dialogue(_) | Fault::NotDraftable { .. } | Fault::NoPart { .. } => {
+            seen_hint(alloc, inputs.seen)
+        }
         Fault::BeforeAnswer => say(alloc, BEFORE_ANSWER),
         Fault::Answer(fault) => params_hint(alloc, fault, inputs.answer),
         Fault::NoCode => say(alloc, NO_CODE),
-        Fault::Dialogue(fault) => dialogue_hint(alloc, fault, inputs.dialogue, inputs.unread),
-        Fault::NotDraftable { message, segment } => {
-            draft_hint(alloc, *message, *segment, inputs.dialogue)
-        }
-        Fault::NoPart { .. } => part_hint(alloc, inputs.dialogue),
     }
 }

@@ -2,10 +2,11 @@
 use crate::captured::CapturedNotes;
 use crate::notes::Notes;
 use crate::sources::{Indexes, Source, capture_of};
+use crate::untold::parameters_hint;
 use fints_cli_hints_segments::UnreadHint;
 use fints_cli_hints_words::places::{HintText, written};
 use fints_rules::{AccountForm, Broken, Message, Permissions};
-use fints_rules_dialogues::{Exchange, Observer, ToldIn};
+use fints_rules_dialogues::{Exchange, Heard, Observer, ToldIn};
 use fints_rules_messages::{Unread, UnreadObserver};
 use fints_syntax::Memory;
 use std::alloc::Global;
@@ -21,7 +22,7 @@ fn names_account(permissions: &Permissions<'_>, message: &Message<'_>) -> bool {
 
 /// The reasons of what the client's messages of a dialogue break, in the order in which `audit` names them:
 /// a line for each rule, why it is broken and what to change; and then the notes on its messages. And the hint
-/// of a message that is none.
+/// of a message that is none, or of parameters that are missing.
 #[derive(Drop)]
 pub struct AuditReasons<'c> {
     alloc: Global,
@@ -36,6 +37,8 @@ pub struct AuditReasons<'c> {
     // Whether memory ran out.
     failed: bool,
     hint: UnreadHint,
+    // Whose parameters are missing.
+    lacking: Option<String>,
 }
 
 impl<'c> AuditReasons<'c> {
@@ -52,6 +55,7 @@ impl<'c> AuditReasons<'c> {
             unknown: false,
             failed: false,
             hint: UnreadHint::new(alloc, wanted),
+            lacking: None,
         }
     }
 
@@ -70,9 +74,13 @@ impl<'c> AuditReasons<'c> {
         Ok(Some(text))
     }
 
-    /// Why a message of the client is none; none where they all are.
+    /// Why a message of the client is none, or whose parameters are missing; none where nothing is wrong.
     pub fn into_hint(self) -> Option<String> {
-        self.hint.into_text()
+        let AuditReasons { hint, lacking, .. } = self;
+        match lacking {
+            Some(text) => Some(text),
+            None => hint.into_text(),
+        }
     }
 
     // Adds the reasons of what the next message breaks.
@@ -162,6 +170,12 @@ impl Observer for AuditReasons<'_> {
     ) {
         if self.wanted && !self.failed {
             self.failed = self.add(permissions, told_in, exchange, broken).is_err();
+        }
+    }
+
+    fn lacks_bank(&mut self, heard: &[Heard<'_>]) {
+        if self.wanted {
+            self.lacking = parameters_hint(self.alloc, heard).unwrap_or(None);
         }
     }
 }

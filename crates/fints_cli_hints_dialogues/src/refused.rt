@@ -1,14 +1,20 @@
 //! What the refusal of a recorded dialogue is about.
 use crate::lost::lost_hint;
-use crate::untold::parameters_hint;
 use fints_cli_hints_segments::params_hint;
 use fints_cli_hints_words::places::{HintText, line_at, say, say_at};
 use fints_params::{ParamFault, feedback_codes};
-use fints_rules_dialogues::{DialogueFault, Log, RecordedMessage, Recording, read_log};
+use fints_rules_dialogues::{DialogueFault, Log, RecordedMessage, Recording};
 use fints_syntax::Memory;
 use std::alloc::Global;
 use std::fmt;
 use std::fmt::{Display, Formatter, Write};
+
+/// A file in which messages were looked for, and the log that it is, if it is one.
+#[derive(Clone, Copy)]
+pub struct ReadLog<'r> {
+    pub file: &'r [u8],
+    pub log: Option<&'r Log<'r>>,
+}
 
 // What is due at a place in a recording: the client's message of this number, from 1, or the answer to it.
 #[derive(Clone, Copy)]
@@ -72,15 +78,6 @@ fn turn_after(alloc: Global, messages: &[RecordedMessage<'_>]) -> Result<Turn, M
     Ok(turn)
 }
 
-// The log that a file is, if it is one.
-fn log_of(alloc: Global, file: &[u8]) -> Result<Option<Log<'_>>, Memory> {
-    match read_log(alloc, file) {
-        Ok(log) => Ok(Some(log)),
-        Err(DialogueFault::Memory) => Err(Memory),
-        Err(_) => Ok(None),
-    }
-}
-
 // ---- what is no message
 
 // Why a message of the client ceases at an offset to be one, as its reader says it. It is the last message
@@ -104,11 +101,16 @@ fn client_hint(
     say(alloc, format_args!("message {number}: {unread}"))
 }
 
-fn no_message_hint(alloc: Global, file: &[u8], offset: usize, unread: Option<&str>) -> HintText {
-    let Some(log) = log_of(alloc, file)? else {
-        return lost_hint(alloc, file, offset);
+fn no_message_hint(
+    alloc: Global,
+    read: &ReadLog<'_>,
+    offset: usize,
+    unread: Option<&str>,
+) -> HintText {
+    let Some(log) = read.log else {
+        return lost_hint(alloc, read.file, offset);
     };
-    let recording = Recording::of(alloc, &log)?;
+    let recording = Recording::of(alloc, log)?;
     match unread {
         Some(text) => client_hint(alloc, recording.messages(), offset, text),
         None => Ok(None),
@@ -133,11 +135,11 @@ fn sent_at<'a>(
     }
 }
 
-fn turn_hint(alloc: Global, file: &[u8], offset: usize) -> HintText {
-    let Some(log) = log_of(alloc, file)? else {
+fn turn_hint(alloc: Global, read: &ReadLog<'_>, offset: usize) -> HintText {
+    let Some(log) = read.log else {
         return Ok(None);
     };
-    let recording = Recording::of(alloc, &log)?;
+    let recording = Recording::of(alloc, log)?;
     let Some((turn, _)) = sent_at(alloc, recording.messages(), offset)? else {
         return Ok(None);
     };
@@ -154,15 +156,15 @@ fn turn_hint(alloc: Global, file: &[u8], offset: usize) -> HintText {
     )
 }
 
-fn answer_hint(alloc: Global, file: &[u8], start: usize, fault: &ParamFault) -> HintText {
-    let Some(log) = log_of(alloc, file)? else {
+fn answer_hint(alloc: Global, read: &ReadLog<'_>, start: usize, fault: &ParamFault) -> HintText {
+    let Some(log) = read.log else {
         return Ok(None);
     };
-    let recording = Recording::of(alloc, &log)?;
+    let recording = Recording::of(alloc, log)?;
     let Some((turn, sent)) = sent_at(alloc, recording.messages(), start)? else {
         return Ok(None);
     };
-    let line = line_at(file, start);
+    let line = line_at(read.file, start);
     say_at(
         alloc,
         format_args!("{turn}, whose line 1 is line {line} of the file: "),
@@ -173,20 +175,23 @@ fn answer_hint(alloc: Global, file: &[u8], start: usize, fault: &ParamFault) -> 
 const NO_MESSAGE: &str =
     "no message begins in the file: one begins with HNHBK:1:3 and its size in 12 digits, or with SE5IQks6, the same in base64";
 
-/// What the refusal of a recorded dialogue is about; `unread` says why a message of the client is none, where
-/// its reader found that.
+/// What the refusal of a recorded dialogue is about. `seen` is what was said while it was read: why a message
+/// of the client is none, or whose parameters are missing.
 pub fn dialogue_hint(
     alloc: Global,
     fault: &DialogueFault,
-    file: &[u8],
-    unread: Option<&str>,
+    read: &ReadLog<'_>,
+    seen: Option<&str>,
 ) -> HintText {
     match fault {
         DialogueFault::Memory => Ok(None),
         DialogueFault::NoMessage => say(alloc, NO_MESSAGE),
-        DialogueFault::NotAMessage { offset } => no_message_hint(alloc, file, *offset, unread),
-        DialogueFault::NotInTurn { offset } => turn_hint(alloc, file, *offset),
-        DialogueFault::Answer { start, fault } => answer_hint(alloc, file, *start, fault),
-        DialogueFault::NoParameters => parameters_hint(alloc, file),
+        DialogueFault::NotAMessage { offset } => no_message_hint(alloc, read, *offset, seen),
+        DialogueFault::NotInTurn { offset } => turn_hint(alloc, read, *offset),
+        DialogueFault::Answer { start, fault } => answer_hint(alloc, read, *start, fault),
+        DialogueFault::NoParameters => match seen {
+            Some(text) => say(alloc, text),
+            None => Ok(None),
+        },
     }
 }

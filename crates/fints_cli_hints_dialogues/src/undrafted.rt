@@ -1,7 +1,7 @@
 //! What the refusal of a draft is about: what no script sends as it was recorded.
 use fints_cli_hints_words::places::{HintText, say};
 use fints_params::sealed_data;
-use fints_rules_dialogues::{Exchange, read_dialogue, read_log};
+use fints_rules_dialogues::Exchange;
 use fints_syntax::{Kind, Memory, OwnedSegment, SegmentView, parse_all};
 use std::alloc::Global;
 
@@ -63,13 +63,12 @@ fn kind_of(alloc: Global, bytes: &[u8], number: usize) -> Result<Option<Kind>, M
 }
 
 // What a script sends at a segment of a message of the client.
-fn segment_hint(alloc: Global, message: usize, segment: usize, file: &[u8]) -> HintText {
-    let Ok(log) = read_log(alloc, file) else {
-        return Ok(None);
-    };
-    let Ok(exchanges) = read_dialogue(alloc, &log) else {
-        return Ok(None);
-    };
+fn segment_hint(
+    alloc: Global,
+    message: usize,
+    segment: usize,
+    exchanges: &[Exchange<'_>],
+) -> HintText {
     let Some(exchange) = exchanges.get(message.saturating_sub(1)) else {
         return Ok(None);
     };
@@ -95,15 +94,9 @@ fn dialogues_in(exchanges: &[Exchange<'_>]) -> usize {
     exchanges.iter().filter(|it| it.begins).count()
 }
 
-/// How many dialogues a recording has.
-pub fn part_hint(alloc: Global, file: &[u8]) -> HintText {
-    let Ok(log) = read_log(alloc, file) else {
-        return Ok(None);
-    };
-    let Ok(exchanges) = read_dialogue(alloc, &log) else {
-        return Ok(None);
-    };
-    match dialogues_in(exchanges.as_slice()) {
+/// How many dialogues a recording of these exchanges has.
+pub fn part_hint(alloc: Global, exchanges: &[Exchange<'_>]) -> HintText {
+    match dialogues_in(exchanges) {
         1 => say(alloc, "the recording has one dialogue"),
         count => say(
             alloc,
@@ -112,12 +105,17 @@ pub fn part_hint(alloc: Global, file: &[u8]) -> HintText {
     }
 }
 
-/// What the refusal of a draft is about. The client's messages count from 1, and a segment has the number in
+/// What the refusal of a draft of these exchanges is about. The client's messages count from 1, and a segment has the number in
 /// its head; 0 is the dialogue, or the message as a whole.
-pub fn draft_hint(alloc: Global, message: usize, segment: usize, file: &[u8]) -> HintText {
+pub fn draft_hint(
+    alloc: Global,
+    message: usize,
+    segment: usize,
+    exchanges: &[Exchange<'_>],
+) -> HintText {
     match (message, segment) {
         (0, _) => say(alloc, WHOLE_DIALOGUE),
         (_, 0) => say(alloc, format_args!("message {message}: {WHOLE_MESSAGE}")),
-        _ => segment_hint(alloc, message, segment, file),
+        _ => segment_hint(alloc, message, segment, exchanges),
     }
 }

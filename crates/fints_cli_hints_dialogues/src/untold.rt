@@ -1,7 +1,7 @@
 //! Why a recording has no parameters for one of its messages.
 use fints_cli_hints_words::places::{HintText, say};
 use fints_cli_hints_words::quoting::Sample;
-use fints_rules_dialogues::{Heard, OwnParams, Party, read_dialogue, read_log};
+use fints_rules_dialogues::{Heard, Party};
 use fints_syntax::Memory;
 use std::alloc::Global;
 use std::fmt;
@@ -70,18 +70,9 @@ fn first_untold<'h>(
     Ok(None)
 }
 
-/// Why the parameters are missing by which a message of the recording is to be judged.
-pub fn parameters_hint(alloc: Global, file: &[u8]) -> HintText {
-    let Ok(log) = read_log(alloc, file) else {
-        return Ok(None);
-    };
-    let Ok(exchanges) = read_dialogue(alloc, &log) else {
-        return Ok(None);
-    };
-    let Ok(own) = OwnParams::of(alloc, exchanges.as_slice()) else {
-        return Ok(None);
-    };
-    match first_untold(alloc, own.heard())? {
+/// Why the parameters are missing by which a message of the recording is to be judged, by what its answers say.
+pub fn parameters_hint(alloc: Global, heard: &[Heard<'_>]) -> HintText {
+    match first_untold(alloc, heard)? {
         Some(other) => say(alloc, other),
         None => say(alloc, format_args!("no answer {ADVICE}")),
     }

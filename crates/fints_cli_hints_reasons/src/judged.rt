@@ -58,7 +58,7 @@ fn add_segment(
     let seen = Seen {
         kind,
         version,
-        elements: Elements::Outgoing(&sent),
+        elements: Elements::Sent(&sent),
         count: kinds.count(kind),
         signatures: judged.message.ends().len(),
         demanding: kinds.demanding(),

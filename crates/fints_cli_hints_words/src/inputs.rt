@@ -9,12 +9,9 @@ pub struct Inputs<'a> {
     pub script: &'a [u8],
     pub case: &'a [u8],
     pub certificate: &'a [u8],
-    pub before: &'a [u8],
     pub answer: &'a [u8],
-    pub message: &'a [u8],
-    pub dialogue: &'a [u8],
-    /// Why the bytes of a message are none, where its reader found that.
-    pub unread: Option<&'a str>,
+    /// What was said of a message or a recording where it was read and refused.
+    pub seen: Option<&'a str>,
 }
 
 impl Inputs<'_> {
@@ -26,11 +23,8 @@ impl Inputs<'_> {
             script: b"",
             case: b"",
             certificate: b"",
-            before: b"",
             answer: b"",
-            message: b"",
-            dialogue: b"",
-            unread: None,
+            seen: None,
         }
     }
 }

@@ -1,13 +1,14 @@
 //! The rules that the messages of a recording break.
-ghost use Rattle.std.specs.Prelude.{◌≡◌, length, IfOk, IfErr, option_copied};
+ghost use Rattle.std.specs.Prelude.{◌≡◌, length, map, Some, IfOk, IfErr, option_copied};
 ghost use Rattle.std.specs.List.{AllByRecursion};
 ghost use Rattle.fints_rules_dialogues.specs.Dialogues.{IsExchange, IsMemoryOrRefusal, IsTurnFault};
 ghost use Rattle.fints_rules_dialogues.specs.Auditing.{before_in, codes_told, AreAudited, AreAuditedInTurn, IsAuditedNext, IsExchangeOrNone, IsJudgedNext, IsOwnAudit};
-ghost use Rattle.fints_rules_dialogues.specs.OwnParams.{IsOwnParamsFault};
+ghost use Rattle.fints_rules_dialogues.specs.OwnParams.{IsOwnParamsFault, LacksBank, granted_each};
+ghost use Rattle.fints_rules_dialogues.specs.declared.fault.DialogueFault.TheVariants as fault;
 
 use crate::fault::DialogueFault;
 use crate::messages::RecordedMessage;
-use crate::own_params::OwnParams;
+use crate::own_params::{Heard, OwnParams};
 use crate::reading::{Exchange, message_count, read_exchange};
 use crate::recording::Recording;
 use crate::sources::{Basis, OwnPermissions, ToldIn};
@@ -37,6 +38,9 @@ pub trait Observer: UnreadObserver {
         exchange: &Exchange<'_>,
         broken: &[Broken],
     );
+
+    /// Looks at what the answers say, where the bank of some message sends no parameters.
+    fn lacks_bank(&mut self, heard: &[Heard<'_>]);
 }
 
 impl Observer for Unobserved {
@@ -47,6 +51,8 @@ impl Observer for Unobserved {
         _exchange: &Exchange<'_>,
         _broken: &[Broken],
     ) {}
+
+    fn lacks_bank(&mut self, _heard: &[Heard<'_>]) {}
 }
 
 // The codes of the answer of an exchange; none without an answer.
@@ -177,6 +183,27 @@ fn audit_each<'a, O: Observer>(
     Ok(audited)
 }
 
+// By what the message of each exchange is judged. The refusal is that of `OwnPermissions::each`.
+fn bases_of<'g, O: Observer>(
+    alloc: Global,
+    own: &OwnParams<'_>,
+    permissions: &'g OwnPermissions<'g>,
+    observer: &mut O,
+) -> Result<Vec<Basis<'g>>, DialogueFault>
+    ensures granted { IfOk result (λ v. map Some v.items
+        ≡ granted_each permissions.now.orders permissions.now.heard) }
+    ensures refused { IfErr result
+        (λ f. IsMemoryOrRefusal (λ f. LacksBank permissions.now.heard × (f ≡ fault.NoParameters)) f) }
+{
+    match permissions.each(alloc) {
+        Ok(bases) => Ok(bases),
+        Err(fault) => {
+            observer.lacks_bank(own.heard());
+            Err(fault)
+        }
+    }
+}
+
 /// The same by the parameters in the recording's own answers, each message by those that were sent
 /// last before it (`OwnPermissions::each`). The refusal is that of `OwnParams::of`, or that the bank of some
 /// message sends no parameters.
@@ -192,7 +219,7 @@ pub fn audit_exchanges<'a, O: Observer>(
 {
     let own = OwnParams::of(alloc, exchanges)?;
     let permissions = OwnPermissions::of(alloc, &own, orders)?;
-    let bases = permissions.each(alloc)?;
+    let bases = bases_of(alloc, &own, &permissions, observer)?;
     let audited = audit_each(alloc, bases.as_slice(), exchanges, observer)?;
     Ok(audited)
 }

@@ -2,9 +2,9 @@
 use fints_params::Params;
 use fints_rules::{Broken, OrderTable, Permissions};
 use fints_rules_dialogues::{
-    Audited, DialogueFault, Exchange, Log, Observer, OwnParams, OwnPermissions, Recording, ToldIn,
-    Unread, UnreadObserver, audit, audit_exchanges, is_answer, read_dialogue, read_dialogue_with,
-    read_log,
+    Audited, DialogueFault, Exchange, Heard, Log, Observer, OwnParams, OwnPermissions, Recording,
+    ToldIn, Unread, UnreadObserver, audit, audit_exchanges, is_answer, read_dialogue,
+    read_dialogue_with, read_log,
 };
 use fints_samples::T;
 use std::alloc::Global;
@@ -41,6 +41,10 @@ impl Observer for Counter {
         _broken: &[Broken],
     ) {
         self.exchanges = self.exchanges.saturating_add(1);
+    }
+
+    fn lacks_bank(&mut self, heard: &[Heard<'_>]) {
+        self.exchanges = heard.len();
     }
 }
 
@@ -160,22 +164,25 @@ fn own_parameters(rt: HostRuntime) -> Result<(), Fail> {
     Ok(())
 }
 
-// Why the messages aren't audited by the parameters of the recording itself.
+// Why the messages aren't audited by the parameters of the recording itself, and how many exchanges the
+// observer sees.
 fn refused_by_own(
     alloc: Global,
     exchanges: &[Exchange<'_>],
-) -> Result<Option<DialogueFault>, Fail> {
+) -> Result<(Option<DialogueFault>, usize), Fail> {
     let orders = OrderTable::read(alloc, T)?;
     let mut seen = NOTHING_SEEN;
-    Ok(audit_exchanges(alloc, &orders, exchanges, &mut seen).err())
+    let refused = audit_exchanges(alloc, &orders, exchanges, &mut seen).err();
+    Ok((refused, seen.exchanges))
 }
 
 #[test]
 fn no_parameters(rt: HostRuntime) -> Result<(), Fail> {
     let log = read_log(rt.alloc(), BROKEN_OFF)?;
     let exchanges = read_dialogue(rt.alloc(), &log)?;
-    let refused = refused_by_own(rt.alloc(), exchanges.as_slice())?;
+    let (refused, seen) = refused_by_own(rt.alloc(), exchanges.as_slice())?;
     assert_eq!(rt; refused, Some(DialogueFault::NoParameters));
+    assert!(rt; seen == 2);
     Ok(())
 }
 
