@@ -2,10 +2,8 @@
 use crate::days::day_of;
 use crate::formats::{Format, format_in};
 use crate::procedures::{Procedure, add_procedures};
-use fints_cli_hints_segments::data_of;
-use fints_syntax::{
-    Kind, Memory, OwnedSegment, Placed, SegmentView, SyntaxKind, parse_number, parse_placed,
-};
+use crate::walk::Walk;
+use fints_syntax::{Kind, Memory, OwnedSegment, SegmentView, parse_number};
 use memchr::memmem;
 use std::alloc::Global;
 
@@ -17,12 +15,12 @@ pub struct Lengths {
     pub most_tan: u32,
 }
 
-/// For how many days a parameter segment says that a bank keeps turnover.
+// For how many days parameter segments say that a bank keeps turnover; 0 is no limit.
 #[derive(Clone, Copy)]
-pub struct Kept {
-    pub kind: Kind,
-    pub version: u16,
-    pub days: u32,
+struct Kept {
+    kind: Kind,
+    version: u16,
+    days: u32,
 }
 
 /// What a capture says of TAN procedures, of the lengths of PIN and TAN, of formats and of days.
@@ -38,7 +36,8 @@ pub struct Captured {
     pub lengths: Option<Lengths>,
     /// The formats of each HISPAS and of each other parameter segment, by its kind.
     pub formats: Vec<(Kind, Format)>,
-    pub kept: Vec<Kept>,
+    // Of each kind and version that says it, the most days.
+    kept: Vec<Kept>,
     // How many HIPINS version 1 there are.
     pins: usize,
 }
@@ -69,8 +68,7 @@ fn lengths_of(segment: &OwnedSegment) -> Lengths {
 }
 
 // How long turnover is kept, of the parameter segments that say it.
-fn kept_of(segment: &OwnedSegment) -> Option<Kept> {
-    let version = segment.head.version;
+fn kept_of(segment: &SegmentView<'_>) -> Option<Kept> {
     let element = if segment.is_named(b"HIKAZS", 5) {
         4
     } else if segment.is_named(b"HIKAZS", 6)
@@ -82,9 +80,9 @@ fn kept_of(segment: &OwnedSegment) -> Option<Kept> {
         return None;
     };
     Some(Kept {
-        kind: segment.head.id,
-        version,
-        days: parse_number(segment.value(element, 1))?,
+        kind: segment.id(),
+        version: segment.version(),
+        days: segment.item(element, 1)?.number()?,
     })
 }
 
@@ -94,16 +92,12 @@ fn is_parameter(kind: Kind) -> bool {
     id.len() == 6 && id.starts_with(b"HI") && id.ends_with(b"S")
 }
 
-// Whether a note asks for something in the segment: in one of these kinds, or in a parameter segment with a format.
-// An ordinary capture has many others, which aren't copied.
-fn is_asked_for(segment: &SegmentView<'_>) -> bool {
+// Whether a note asks for more of the segment than how long turnover is kept: it is of one of these kinds, or a
+// parameter segment with a format.
+fn is_read_whole(segment: &SegmentView<'_>) -> bool {
     let kind = segment.id();
-    let is_read = kind.is(b"HITANS")
-        || kind.is(b"HIRMS")
-        || kind.is(b"HIPINS")
-        || kind.is(b"HIKAZS")
-        || kind.is(b"HICAZS");
-    is_read || is_parameter(kind) && memmem::find(segment.as_bytes(), b"pain").is_some()
+    let is_of_kind = kind.is(b"HITANS") || kind.is(b"HIRMS") || kind.is(b"HIPINS");
+    is_of_kind || is_parameter(kind) && memmem::find(segment.as_bytes(), b"pain").is_some()
 }
 
 fn add_formats(formats: &mut Vec<(Kind, Format)>, segment: &OwnedSegment) -> Result<(), Memory> {
@@ -117,17 +111,6 @@ fn add_formats(formats: &mut Vec<(Kind, Format)>, segment: &OwnedSegment) -> Res
         }
     }
     Ok(())
-}
-
-// The segments of the bytes; none where they are no segments.
-fn segments_of(alloc: Global, bytes: &[u8]) -> Result<Vec<Placed<'_>>, Memory> {
-    match parse_placed(alloc, bytes) {
-        Ok(segments) => Ok(segments),
-        Err(fault) => match fault.kind {
-            SyntaxKind::Memory => Err(Memory),
-            _ => Ok(Vec::new(alloc)),
-        },
-    }
 }
 
 impl Captured {
@@ -168,39 +151,48 @@ impl Captured {
             self.pins = self.pins.saturating_add(1);
             self.lengths = Some(lengths_of(segment));
         }
-        if let Some(kept) = kept_of(segment) {
-            self.kept.push(kept)?;
-        }
         add_formats(&mut self.formats, segment)
     }
 
-    fn add_placed(&mut self, alloc: Global, placed: &Placed<'_>) -> Result<(), Memory> {
-        if is_asked_for(&placed.segment) {
-            self.add(&placed.segment.to_owned(alloc)?)?;
+    // Keeps the most days of a kind and version; 0 is no limit, and more than all others.
+    fn keep(&mut self, kept: Kept) -> Result<(), Memory> {
+        let earlier = self
+            .kept
+            .iter_mut()
+            .find(|it| it.kind == kept.kind && it.version == kept.version);
+        match earlier {
+            Some(earlier) => {
+                let is_limited = earlier.days > 0 && kept.days > 0;
+                earlier.days = if is_limited {
+                    earlier.days.max(kept.days)
+                } else {
+                    0
+                };
+                Ok(())
+            }
+            None => Ok(self.kept.push(kept)?),
+        }
+    }
+
+    fn add_view(&mut self, alloc: Global, segment: &SegmentView<'_>) -> Result<(), Memory> {
+        if let Some(kept) = kept_of(segment) {
+            self.keep(kept)?;
+        }
+        if is_read_whole(segment) {
+            self.add(&segment.to_owned(alloc)?)?;
         }
         Ok(())
     }
 
-    // Adds the segments of the data of an HNVSD.
-    fn add_data(&mut self, alloc: Global, data: &[u8]) -> Result<(), Memory> {
-        for placed in segments_of(alloc, data)?.iter() {
-            self.add_placed(alloc, placed)?;
-        }
-        Ok(())
-    }
-
-    fn add_outer(&mut self, alloc: Global, placed: &Placed<'_>) -> Result<(), Memory> {
-        match data_of(placed) {
-            Some(data) => self.add_data(alloc, data.bytes),
-            None => self.add_placed(alloc, placed),
-        }
-    }
-
-    /// What the capture says.
+    /// What a capture says, which was read before.
     pub fn of(alloc: Global, capture: &[u8]) -> Result<Captured, Memory> {
         let mut captured = Captured::nothing(alloc);
-        for placed in segments_of(alloc, capture)?.iter() {
-            captured.add_outer(alloc, placed)?;
+        let mut walk = Walk::over(capture);
+        for _ in 0..capture.len() {
+            let Some(segment) = walk.step() else {
+                break;
+            };
+            captured.add_view(alloc, &segment)?;
         }
         if captured.pins != 1 {
             captured.lengths = None;
@@ -239,16 +231,15 @@ impl Captured {
     /// For how many days the bank keeps turnover, the most that a parameter segment of this kind and version
     /// says. None where none says it, or one says 0, which is no limit.
     pub fn days(&self, id: &[u8], version: u16) -> Option<u32> {
-        let mut most = None;
-        for kept in self.kept.iter() {
-            if kept.kind.is(id) && kept.version == version {
-                if kept.days == 0 {
-                    return None;
-                }
-                most = most.max(Some(kept.days));
-            }
+        let kept = self
+            .kept
+            .iter()
+            .find(|it| it.kind.is(id) && it.version == version)?;
+        if kept.days == 0 {
+            None
+        } else {
+            Some(kept.days)
         }
-        most
     }
 }
 
@@ -267,37 +258,29 @@ pub struct Said {
 }
 
 impl Said {
-    fn add_placed(&mut self, alloc: Global, placed: &Placed<'_>) -> Result<(), Memory> {
-        let kind = placed.segment.id();
-        if kind.is(b"HIRMS") {
-            add_allowed(&mut self.allowed, &placed.segment.to_owned(alloc)?)?;
+    fn add_view(&mut self, alloc: Global, segment: &SegmentView<'_>) -> Result<(), Memory> {
+        if segment.id().is(b"HIRMS") {
+            add_allowed(&mut self.allowed, &segment.to_owned(alloc)?)?;
         }
-        let version = placed.segment.version();
-        if kind.is(b"HITAN") && (version == 6 || version == 7) {
-            self.references.push(placed.segment.to_owned(alloc)?)?;
-        }
-        Ok(())
-    }
-
-    fn add_data(&mut self, alloc: Global, data: &[u8]) -> Result<(), Memory> {
-        for placed in segments_of(alloc, data)?.iter() {
-            self.add_placed(alloc, placed)?;
+        if segment.is_named(b"HITAN", 6) || segment.is_named(b"HITAN", 7) {
+            self.references.push(segment.to_owned(alloc)?)?;
         }
         Ok(())
     }
 }
 
-/// What an answer says.
+/// What an answer says, which was read before.
 pub fn said_in(alloc: Global, answer: &[u8]) -> Result<Said, Memory> {
     let mut said = Said {
         allowed: Vec::new(alloc),
         references: Vec::new(alloc),
     };
-    for placed in segments_of(alloc, answer)?.iter() {
-        match data_of(placed) {
-            Some(data) => said.add_data(alloc, data.bytes)?,
-            None => said.add_placed(alloc, placed)?,
-        }
+    let mut walk = Walk::over(answer);
+    for _ in 0..answer.len() {
+        let Some(segment) = walk.step() else {
+            break;
+        };
+        said.add_view(alloc, &segment)?;
     }
     Ok(said)
 }

@@ -11,6 +11,7 @@ mod noting;
 mod procedures;
 mod sent;
 mod spans;
+mod walk;
 
 pub use captured::{Captured, Said, said_in};
 pub use lists::{Further, MOST_SHOWN, Numbers};

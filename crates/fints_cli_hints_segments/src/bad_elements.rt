@@ -3,7 +3,8 @@ use crate::syntax::wrapped;
 use fints_cli_hints_words::quoting::Sample;
 use fints_params::Code;
 use fints_syntax::{
-    ElementRef, HNVSD_VERSION, Item, Memory, OwnedSegment, Placed, parse_number, parse_placed,
+    ElementRef, HNVSD_VERSION, Item, Memory, OwnedSegment, Placed, SegmentView, parse_number,
+    parse_placed,
 };
 use std::alloc::Global;
 use std::fmt;
@@ -24,19 +25,26 @@ pub struct Data<'a> {
     pub base: usize,
 }
 
-/// The data of an HNVSD version 1.
-pub fn data_of<'a>(placed: &Placed<'a>) -> Option<Data<'a>> {
-    let view = &placed.segment;
-    if !view.id().is(b"HNVSD") || view.version() != HNVSD_VERSION {
+/// The bytes in the data of an HNVSD version 1.
+pub fn data_in<'a>(view: &SegmentView<'a>) -> Option<&'a [u8]> {
+    if !view.is_named(b"HNVSD", HNVSD_VERSION) {
         return None;
     }
-    match (view.item(2, 1), view.item_start(2, 1)) {
-        (Some(Item::Bin(bytes)), Some(start)) => Some(Data {
-            bytes,
-            base: placed.start.saturating_add(start),
-        }),
+    match view.item(2, 1) {
+        Some(Item::Bin(bytes)) => Some(bytes),
         _ => None,
     }
+}
+
+/// The same, with the place where they begin.
+pub fn data_of<'a>(placed: &Placed<'a>) -> Option<Data<'a>> {
+    let view = &placed.segment;
+    let bytes = data_in(view)?;
+    let start = view.item_start(2, 1)?;
+    Some(Data {
+        bytes,
+        base: placed.start.saturating_add(start),
+    })
 }
 
 fn push_found(

@@ -10,7 +10,7 @@ mod scanning;
 mod skipped;
 mod syntax;
 
-pub use bad_elements::{Data, data_of};
+pub use bad_elements::data_in;
 pub use captures::params_hint;
 pub use messages::{UnreadHint, front_hint};
 pub use skipped::{Skipped, skipped_notes, skipped_segments};
