@@ -4,7 +4,7 @@ use crate::formats::{Format, format_in};
 use crate::procedures::{Procedure, add_procedures};
 use crate::walk::Walk;
 use fints_syntax::{Kind, Memory, OwnedSegment, SegmentView, parse_number};
-use memchr::memmem;
+use memchr::{memchr, memmem};
 use std::alloc::Global;
 
 /// The lengths of element 5 of the one HIPINS; 0 where one isn't given.
@@ -67,37 +67,44 @@ fn lengths_of(segment: &OwnedSegment) -> Lengths {
     }
 }
 
-// How long turnover is kept, of the parameter segments that say it.
+// The element that says how long turnover is kept, in the parameter segments that say it.
+fn days_element(id: &[u8], version: u16) -> Option<usize> {
+    match (id, version) {
+        (b"HIKAZS", 5) => Some(4),
+        (b"HIKAZS", 6 | 7) | (b"HICAZS", 1) => Some(5),
+        _ => None,
+    }
+}
+
 fn kept_of(segment: &SegmentView<'_>) -> Option<Kept> {
-    let element = if segment.is_named(b"HIKAZS", 5) {
-        4
-    } else if segment.is_named(b"HIKAZS", 6)
-        || segment.is_named(b"HIKAZS", 7)
-        || segment.is_named(b"HICAZS", 1)
-    {
-        5
-    } else {
-        return None;
-    };
+    let (kind, version) = (segment.id(), segment.version());
+    let element = days_element(kind.as_bytes(), version)?;
+    let days = segment.item(element, 1)?.number()?;
     Some(Kept {
-        kind: segment.id(),
-        version: segment.version(),
-        days: segment.item(element, 1)?.number()?,
+        kind,
+        version,
+        days,
     })
 }
 
-// Whether it is the kind of a parameter segment: HIxxxS.
-fn is_parameter(kind: Kind) -> bool {
-    let id = kind.as_bytes();
+// Whether it is the identifier of a parameter segment: HIxxxS.
+fn is_parameter(id: &[u8]) -> bool {
     id.len() == 6 && id.starts_with(b"HI") && id.ends_with(b"S")
+}
+
+// Whether a format may be in the bytes.
+fn has_format(bytes: &[u8]) -> bool {
+    memchr(b'p', bytes).is_some() && memmem::find(bytes, b"pain").is_some()
 }
 
 // Whether a note asks for more of the segment than how long turnover is kept: it is of one of these kinds, or a
 // parameter segment with a format.
 fn is_read_whole(segment: &SegmentView<'_>) -> bool {
     let kind = segment.id();
-    let is_of_kind = kind.is(b"HITANS") || kind.is(b"HIRMS") || kind.is(b"HIPINS");
-    is_of_kind || is_parameter(kind) && memmem::find(segment.as_bytes(), b"pain").is_some()
+    match kind.as_bytes() {
+        b"HITANS" | b"HIRMS" | b"HIPINS" => true,
+        id => is_parameter(id) && has_format(segment.as_bytes()),
+    }
 }
 
 fn add_formats(formats: &mut Vec<(Kind, Format)>, segment: &OwnedSegment) -> Result<(), Memory> {

@@ -2,21 +2,11 @@
 #![tactic(auto)]
 
 #[cfg(test)]
-mod accounts;
-#[cfg(test)]
-mod alike;
-#[cfg(test)]
 mod captures;
-#[cfg(test)]
-mod dialogues;
 #[cfg(test)]
 mod feeding;
 #[cfg(test)]
 mod hashing;
-#[cfg(test)]
-mod logs;
-#[cfg(test)]
-mod offers;
 #[cfg(test)]
 mod parts;
 #[cfg(test)]

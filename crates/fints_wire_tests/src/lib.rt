@@ -8,8 +8,6 @@ mod cases;
 #[cfg(test)]
 mod classes;
 #[cfg(test)]
-mod draft_texts;
-#[cfg(test)]
 mod messages;
 #[cfg(test)]
 mod plans;
