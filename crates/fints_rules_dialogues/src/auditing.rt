@@ -184,10 +184,10 @@ fn audit_each<'a, O: Observer>(
 }
 
 // By what the message of each exchange is judged. The refusal is that of `OwnPermissions::each`.
-fn bases_of<'g, O: Observer>(
+fn bases_of<'g, 'a, O: Observer>(
     alloc: Global,
     own: &OwnParams<'_>,
-    permissions: &'g OwnPermissions<'g>,
+    permissions: &'g OwnPermissions<'a>,
     observer: &mut O,
 ) -> Result<Vec<Basis<'g>>, DialogueFault>
     ensures granted { IfOk result (λ v. map Some v.items
