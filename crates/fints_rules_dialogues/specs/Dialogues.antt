@@ -90,7 +90,8 @@ NoneAnswers [] = Unit {0}
 NoneAnswers (m ∷ ms) = IsCodesOf m.bytes.now []
 
 -- after that exchange, the messages begin with this one, and then there is the rest
-pub record BeginsWith (before : Option Exchange) (messages : List RecordedMessage) (e : Exchange) (rest : List RecordedMessage)
+pub record BeginsWith (before : Option Exchange) (messages : List RecordedMessage) (e : Exchange)
+    (rest : List RecordedMessage)
     : Type 0 where
   pub exchange : IsExchange e
   pub begins : e.begins ≡ begins_after before e.message
@@ -99,7 +100,8 @@ pub record BeginsWith (before : Option Exchange) (messages : List RecordedMessag
   pub unanswered : e.answer ≡ None → NoneAnswers rest
 
 -- after that exchange, they begin with these exchanges, and then there are more
-abbrev pub AreInTurnAfter : Option Exchange → List RecordedMessage → List Exchange → List RecordedMessage → Type 0
+abbrev pub AreInTurnAfter :
+    Option Exchange → List RecordedMessage → List Exchange → List RecordedMessage → Type 0
 AreInTurnAfter before messages [] more = messages ≡ more
 AreInTurnAfter before messages (e ∷ es) more =
     (rest : List RecordedMessage) × BeginsWith before messages e rest × AreInTurnAfter (Some e) rest es more
