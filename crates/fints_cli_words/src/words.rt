@@ -94,7 +94,7 @@ fn command<'a>(alloc: Global, described: &Described) -> Result<Clap<'a>, AllocEr
 fn hints_option<'a>(alloc: Global) -> Arg<'a> {
     Arg::new(alloc, "hints")
         .long("hints")
-        .help("Says on standard error why: of a refusal, and of each finding")
+        .help("Explains each refusal and each finding on standard error")
         .global(true)
         .action(ArgAction::SetTrue)
 }
