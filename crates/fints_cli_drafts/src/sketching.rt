@@ -75,8 +75,7 @@ impl Sketch {
                     .met(usize::from(row))
                     .unwrap_or(SegmentPlace::whole(0))
             }
-            fints_script::Place::Top | fints_script::Place::Field(_) =>
-                SegmentPlace::whole(0),
+            fints_script::Place::Top | fints_script::Place::Field(_) => SegmentPlace::whole(0),
         }
     }
 }

@@ -236,7 +236,7 @@ impl SegmentWhy<'_> {
         };
         write!(
             f,
-            "HIPINS demands a TAN for {kind} ({kind}:J), there is no HKTAN of process 4, and {no_tan}: {advice}"
+            "HIPINS demands a TAN for {kind} ({kind}:J), no HKTAN of process 4 is there, and {no_tan}: {advice}"
         )
     }
 
