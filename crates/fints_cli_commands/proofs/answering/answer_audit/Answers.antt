@@ -3,7 +3,8 @@ use Rattle.fints_cli_commands.proofs.answering.answer_audit.Goals as goal
 
 pub returns-clause-refused : goal.returns-clause-refused
 returns-clause-refused c =
-    λ capture read. rw c.as_slice-2.ensures at (c.in-Err.ensures.refused capture c.args.contents.now.dialogue.items read c.log_of-log.ensures)
+    λ capture read. rw c.refused_log.ensures
+    (rw c.as_slice-2.ensures at (c.in-Err.ensures.refused capture c.args.contents.now.dialogue.items read c.log_of-log.ensures))
 
 pub returns-in-Ok-clause-note : goal.returns-in-Ok-clause-note
 returns-in-Ok-clause-note c =

@@ -2,4 +2,5 @@ use Rattle.fints_cli_commands.proofs.answering.answer_audit_own.Goals as goal
 
 pub returns-clause-refused : goal.returns-clause-refused
 returns-clause-refused c =
-    rw c.as_slice.ensures at (c.in-Err.ensures.refused c.args.contents.now.dialogue.items c.log_of-log.ensures)
+    rw c.refused_log.ensures
+    (rw c.as_slice.ensures at (c.in-Err.ensures.refused c.args.contents.now.dialogue.items c.log_of-log.ensures))

@@ -19,4 +19,5 @@ returns-in-Ok-clause-drafted c =
 
 pub returns-clause-refused : goal.returns-clause-refused
 returns-clause-refused c =
-    rw c.as_slice-table.ensures at (c.in-Err.ensures.refused c.args.contents.now.dialogue.items c.log_of-log.ensures)
+    rw c.refused_log.ensures
+    (rw c.as_slice-table.ensures at (c.in-Err.ensures.refused c.args.contents.now.dialogue.items c.log_of-log.ensures))
