@@ -128,9 +128,12 @@ def public_clauses(text, names, is_public):
     proved = r"invariant|inverse|inverse_ok|laws|total|matches_\w+|respects_eq"
     text = re.sub(rf"^ *ghost (?:{proved}) = \{{.*?\}};\n", "", text, flags=re.M | re.S)
     for item in re.split(r"\n\n(?=\S)", text):
-        head = next((it for it in item.split("\n") if re.match(r"(pub(\(crate\))? |unsafe )*(fn|impl|trait|struct|enum)\b", it)), "")
-        free = re.match(r"(?:pub(?:\(crate\))? |unsafe )*fn (\w+)", head)
+        head = next((it for it in item.split("\n") if re.match(r"(pub(\(crate\))? |unsafe |extern \"C\" )*(fn|impl|trait|struct|enum)\b", it)), "")
+        free = re.match(r"(?:pub(?:\(crate\))? |unsafe |extern \"C\" )*fn (\w+)", head)
         if free:
+            # C sees each call that it may link, whatever the crate hands out.
+            if head.startswith('pub extern "C" fn'):
+                yield re.split(r"^\{$", item, maxsplit=1, flags=re.M)[0]
             if head.startswith("pub fn") and (is_public or free[1] in names):
                 yield re.split(r"^\{$", item, maxsplit=1, flags=re.M)[0]
             continue

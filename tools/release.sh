@@ -1,7 +1,7 @@
 #!/usr/bin/env bash
 # Packs the program that the gate built: a Debian package, an archive for any Linux, and SHA256SUMS. The same commit gives
-# the same bytes. Each has the program, the manual, the completion, the order table, examples, pages, and PROVED: the version,
-# the commit, the kit, and the last line of `rt ci`.
+# the same bytes. Each has the program, the library for C where the gate built it, the manual, the completion, the order
+# table, examples, pages, and PROVED: the version, the commit, the kit, and the last line of `rt ci`.
 #
 # The archive has a static program where the gate left crates/fints/out/fints.o: it runs where glibc is older or absent. All
 # rows must pass on it first. Without that file the archive has the same program as the package.
@@ -13,6 +13,8 @@
 set -euo pipefail
 top=$(cd "$(dirname "$0")/.." && pwd)
 program=$top/crates/fints/out/fints
+library=$top/crates/fints_c/out/libfints.a
+header=$top/crates/fints_c/include/fints.h
 kits=$(dirname "$(dirname "$(realpath "$(command -v rt)")")")/c
 epoch=$(git -C "$top" show -s --format=%ct HEAD)
 commit=$(git -C "$top" rev-parse --short=8 HEAD)
@@ -38,6 +40,10 @@ lay() {
     gzip -9n "$root/usr/share/man/man1/fints.1"
     install -Dm644 "$top/docs/fints.bash" "$root/usr/share/bash-completion/completions/fints"
     install -Dm644 "$top/examples/orders-all.toml" "$root/usr/share/fints/orders-all.toml"
+    if [ -f "$library" ]; then
+        install -Dm644 "$library" "$root/usr/lib/x86_64-linux-gnu/libfints.a"
+        install -Dm644 "$header" "$root/usr/include/fints.h"
+    fi
     mkdir -p "$doc"
     cp -r "$top/README.md" "$top/examples" "$top/docs" "$doc/"
     rm -f "$doc/docs/fints.1" "$doc/docs/fints.bash"
@@ -90,6 +96,7 @@ make_tar() {
     cp "$static" "$folder/$name/fints"
     cp -r "$top/docs/fints.1" "$top/docs/fints.bash" "$root/usr/share/doc/fints/PROVED" "$top/README.md" "$top/examples" "$folder/$name/"
     [ ! -f "$top/LICENSE" ] || cp "$top/LICENSE" "$folder/$name/"
+    [ ! -f "$library" ] || cp "$library" "$header" "$folder/$name/"
     (cd "$folder" && tar --sort=name --mtime="@$epoch" --owner=0 --group=0 --numeric-owner --mode=u=rwX,go=rX -cf - "$name" | gzip -9n > "$name.tar.gz")
     rm -rf "${folder:?}/$name"
 }
@@ -117,6 +124,10 @@ if [ "${1:-}" = --check ]; then
     told=$("$room/empty/usr/bin/fints" audit --dialogue examples/recorded.fints) && fail "the packed program finds nothing in examples/recorded.fints" || status=$?
     [ "$status" = 1 ] && [ "$(tail -n 1 <<< "$told")" = "broken 1" ] || fail "the packed program prints something else"
     "$room/empty/usr/bin/fints" orders | cmp - "$room/empty/usr/share/fints/orders-all.toml" || fail "the order table of the program isn't examples/orders-all.toml"
+    if [ -f "$library" ]; then
+        cc -I"$room/empty/usr/include" -o "$room/outbox" examples/c/outbox.c "$room/empty/usr/lib/x86_64-linux-gnu/libfints.a"
+        "$room/outbox" examples/c1.fints examples/orders.toml examples/balance.msg > "$room/told" || fail "the packed library holds back examples/balance.msg"
+    fi
     [ "$said" = "fints $version ($kit)" ] || echo "release: the program says \"$said\", and the kit here is $kit"
     echo "release: 2 files, 0 failed"
     exit 0

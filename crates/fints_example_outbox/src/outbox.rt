@@ -109,7 +109,7 @@ impl<'a> Outbox<'a> {
         }
     }
 
-    // The rules that the message breaks behind the last one and the bank's answer.
+    // The rules that the message breaks after the last one and the bank's answer.
     fn broken(&self, message: &[u8]) -> Result<Vec<Broken>, JudgeFault>
         ensures permitted { IfOk result (λ broken. broken.items ≡ [] → IsNextIn self.now message.now) }
         ensures broken { IfOk result (λ broken. IsNextIn self.now message.now → broken.items ≡ []) }
@@ -129,9 +129,9 @@ impl<'a> Outbox<'a> {
         }
     }
 
-    /// Hands a message on, if the bank permits it behind the one before and the bank's answer to that. One
-    /// that it permits is held back for want of memory alone; another for all the rules that it breaks, or
-    /// because it is no message.
+    /// Hands a message on, if the bank permits it after the one before and the bank's answer to that. One that it
+    /// permits is held back only when memory runs out; another for all the rules that it breaks, or because it is
+    /// no message.
     pub fn send(&mut self, message: &[u8]) -> Result<(), Held>
         ensures permitted { OnOk result (IsNextIn self.old message.now) }
         ensures sent { OnOk result (self.new ≡ after_sending self.old message.now) }
@@ -155,7 +155,7 @@ impl<'a> Outbox<'a> {
         self.codes = codes;
     }
 
-    /// What was handed on, each message permitted behind the one before it.
+    /// What was handed on, each message permitted after the one before it.
     pub fn sent(&self) -> &[Sent]
         ensures sent { result.now ≡ self.now.sent }
         ensures permitted { EachWasPermitted self.now.granted result.now }

@@ -1,0 +1,101 @@
+#!/usr/bin/env bash
+# Runs the rows of rows/ over the library for C: builds it, compiles tools/over_c.c with it, and compares what comes of each
+# row that has a call with what the row says: the status, the text, and from status 2 on the line of the refusal. Rows
+# that have no call are counted: those with hints, of drafts, pictures and records, and of files that can't be read. Fewer
+# than LEAST that are run are a failure. Then it runs the commands for C and Python of docs/library.md, and the outboxes in
+# Go and Java where they are installed. With BY_RATTLE=1 it links what Rattle's own compiler built.
+set -euo pipefail
+cd "$(dirname "$0")/.."
+if ! command -v "${CC:-cc}" >/dev/null; then
+    echo "over-c: there is no C compiler"
+    exit 0
+fi
+tools/header.py
+tools/build-archive.sh
+library=crates/fints_c/out/${BY_RATTLE:+by-rattle/}libfints.a
+room=$(mktemp -d)
+trap 'rm -rf "$room"' EXIT
+# It asks the system for what C programs have, and for nothing else.
+known=' free malloc memcmp memcpy memmove memset realloc '
+for name in $(nm --undefined-only -j "$library" 2>/dev/null | grep -v ':$' | grep -v '^rattle_' | sort -u); do
+    [[ $known = *" $name "* ]] || { echo "over-c: the library asks for $name" >&2; exit 1; }
+done
+"${CC:-cc}" -std=c11 -O1 -g -Wall -Wextra -Wno-missing-field-initializers -Werror -Icrates/fints_c/include \
+    -o "$room/over_c" tools/over_c.c "$library"
+PYTHONPATH=tools PYTHONDONTWRITEBYTECODE=1 python3 - "$room/over_c" "$room" <<'END'
+import pathlib
+import sys
+from concurrent.futures import ThreadPoolExecutor
+
+import rows
+
+program, room = sys.argv[1], pathlib.Path(sys.argv[2]) / "rows"
+LEAST = 300
+NO_CALL = (75, 77)
+room.mkdir()
+all_rows = rows.read_rows()
+rows.lay_out(room, all_rows)
+
+
+def differs(name):
+    """What comes of a row differs from what it says so; None where it has no call."""
+    row = all_rows[name]
+    ran = rows.run([program, *row.words], room / "rows" / name)
+    if ran.status in NO_CALL:
+        return None
+    want = row.want
+    is_refused = want.status > 1
+    text = (want.err if is_refused else want.out, ran.err if is_refused else ran.out)
+    return "" if ran.status == want.status and text[0] == text[1] else f"over-c: {name}: {ran}, and not {want}"
+
+
+names = [it for it in all_rows if not it.startswith(("usage/", "help/"))]
+with ThreadPoolExecutor(4) as pool:
+    found = list(pool.map(differs, names))
+wrong = [it for it in found if it]
+print("".join(f"{it}\n" for it in wrong), end="", file=sys.stderr)
+passed, left = found.count(""), found.count(None)
+print(f"over-c: {passed} passed, {len(wrong)} failed, {left} have no call")
+sys.exit(bool(wrong) or passed < LEAST)
+END
+mkdir -p out
+PYTHONDONTWRITEBYTECODE=1 python3 - <<'END'
+import re
+import shutil
+import subprocess
+import sys
+
+page = open("docs/library.md", encoding="utf-8").read()
+section = page.split("## From C", 1)[1].split("\n# ", 1)[0]
+
+
+def run(command):
+    """What a shell prints for a command, with both streams in one."""
+    return subprocess.run(command, shell=True, stdout=subprocess.PIPE, stderr=subprocess.STDOUT, text=True).stdout
+
+
+failed = count = 0
+for block in re.findall(r"```\n(.*?)```\n", section, re.S):
+    command, _, shown = block.partition("\n") if block.startswith("$ ") else (block, "", "")
+    command = command.removeprefix("$ ").replace("tools/build-archive.sh\n", "")
+    printed, count = run(command), count + 1
+    if printed != shown:
+        failed += 1
+        print(f"over-c: {command}\nprints\n{printed}", file=sys.stderr)
+
+FILES = "examples/c.fints examples/orders-all.toml examples/unsigned.msg"
+wanted = run(f"out/outbox {FILES}")
+JAVA = "java --add-modules jdk.incubator.foreign --enable-native-access=ALL-UNNAMED examples/java/Outbox.java"
+others = {"go": f"go run examples/go/outbox.go {FILES}", "java": f"{JAVA} examples/python/out/libfints.so {FILES}"}
+for name, command in others.items():
+    version = run("java --version") if name == "java" else ""
+    if not shutil.which(name) or name == "java" and not version.startswith("openjdk 17"):
+        print(f"over-c: {name} isn't installed, or in another version, so its outbox isn't run")
+        continue
+    printed, count = run(f"{command} 2>/dev/null"), count + 1
+    if printed != wanted:
+        failed += 1
+        print(f"over-c: {command}\nprints\n{printed}", file=sys.stderr)
+print(f"over-c: {count - failed} commands passed, {failed} failed")
+sys.exit(failed > 0)
+END
