@@ -21,7 +21,7 @@ done
 mkdir -p out/by-rattle
 checked=$(mktemp -d)
 trap 'rm -rf "$checked"' EXIT
-"$kit/bin/rattle" check "${words[@]}" --jobs 2 -o "$checked/checked" > "$checked/said" || { tail -5 "$checked/said" >&2; exit 1; }
+"$kit/bin/rattle" check "${words[@]}" --jobs 2 -o "$checked/checked" > "$checked/said" 2>&1 || { tail -5 "$checked/said" >&2; exit 1; }
 # --logic-built is a flag of checks only.
 build=()
 for ((i = 0; i < ${#words[@]}; i++)); do
@@ -32,6 +32,6 @@ for backend in llvm rattle; do
     to=out
     [ "$backend" = llvm ] || to=out/by-rattle
     "$kit/bin/rattle" build "${build[@]}" --crate-checked "$checked/checked" --toolchain "$kit/toolchain" --backend "$backend" \
-        -o "$to/libfints_c.a" > "$checked/said" || { tail -5 "$checked/said" >&2; exit 1; }
+        -o "$to/libfints_c.a" > "$checked/said" 2>&1 || { tail -5 "$checked/said" >&2; exit 1; }
     printf 'create %s\naddlib %s\naddlib %s\nsave\nend\n' "$to/libfints.a" "$to/libfints_c.a" "$kit/c/liblibc_c.a" | ar -M
 done
