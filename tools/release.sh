@@ -126,7 +126,7 @@ if [ "${1:-}" = --check ]; then
     "$room/empty/usr/bin/fints" orders | cmp - "$room/empty/usr/share/fints/orders-all.toml" || fail "the order table of the program isn't examples/orders-all.toml"
     if [ -f "$library" ]; then
         cc -I"$room/empty/usr/include" -o "$room/outbox" examples/c/outbox.c "$room/empty/usr/lib/x86_64-linux-gnu/libfints.a"
-        "$room/outbox" examples/c1.fints examples/orders.toml examples/balance.msg > "$room/told" || fail "the packed library holds back examples/balance.msg"
+        "$room/outbox" examples/c.fints examples/orders-all.toml examples/balance.msg > "$room/told" || fail "the packed library holds back examples/balance.msg"
     fi
     [ "$said" = "fints $version ($kit)" ] || echo "release: the program says \"$said\", and the kit here is $kit"
     echo "release: 2 files, 0 failed"
