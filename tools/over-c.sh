@@ -49,9 +49,21 @@ def differs(name):
     return "" if ran.status == want.status and text[0] == text[1] else f"over-c: {name}: {ran}, and not {want}"
 
 
+def over_limit(option, size):
+    """What comes of an input that is one byte too long, where it isn't the program's refusal. No contract asks a call
+    to look at the limits."""
+    paths = {"--params": "examples/c.fints", "--orders": "examples/orders-all.toml", "--message": "examples/balance.msg"}
+    (room / "long").write_bytes(b" " * (size + 1))
+    words = [it for pair in {**paths, option: str(room / "long")}.items() for it in pair]
+    ran = rows.run([program, "judge", *words], room)
+    good = (ran.status, ran.err) == (5, f"error: read {option}\n".encode())
+    return "" if good else f"over-c: {size + 1} bytes of {option}: {ran}"
+
+
 names = [it for it in all_rows if not it.startswith(("usage/", "help/"))]
 with ThreadPoolExecutor(4) as pool:
     found = list(pool.map(differs, names))
+found += [over_limit("--params", 4_194_304), over_limit("--orders", 1_048_576), over_limit("--message", 4_194_304)]
 wrong = [it for it in found if it]
 print("".join(f"{it}\n" for it in wrong), end="", file=sys.stderr)
 passed, left = found.count(""), found.count(None)
