@@ -13,6 +13,7 @@ HEADER = "crates/fints_c/include/fints.h"
 CROSSES = {
     "Global": [],
     "&[u8]": ["const uint8_t *{}", "size_t {}_size"],
+    "&[usize]": ["const size_t *{}", "size_t {}_count"],
     "&mut [u8]": ["uint8_t *{}", "size_t {}_size"],
     "&mut usize": ["size_t *{}"],
     "u32": ["uint32_t {}"],

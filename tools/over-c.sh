@@ -2,7 +2,8 @@
 # Runs the rows of rows/ over the library for C: builds it, compiles tools/over_c.c with it, and compares what comes of each
 # row that has a call with what the row says: the status, the text, and from status 2 on the line of the refusal. Rows
 # that have no call are counted: those with hints, of drafts, pictures and records, and of files that can't be read. Fewer
-# than LEAST that are run are a failure. Then it runs the commands for C and Python of docs/library.md, and the outboxes in
+# than LEAST that are run are a failure. In each of these calls allocations are refused, and where valgrind is installed,
+# it looks on at one row of each call. Then it runs the commands for C and Python of docs/library.md, and the outboxes in
 # Go and Java where they are installed. With BY_RATTLE=1 it links what Rattle's own compiler built.
 set -euo pipefail
 cd "$(dirname "$0")/.."
@@ -21,9 +22,10 @@ for name in $(nm --undefined-only -j "$library" 2>/dev/null | grep -v ':$' | gre
     [[ $known = *" $name "* ]] || { echo "over-c: the library asks for $name" >&2; exit 1; }
 done
 "${CC:-cc}" -std=c11 -O1 -g -Wall -Wextra -Wno-missing-field-initializers -Werror -Icrates/fints_c/include \
-    -o "$room/over_c" tools/over_c.c "$library"
+    -Wl,--wrap=malloc,--wrap=realloc,--wrap=free -o "$room/over_c" tools/over_c.c "$library"
 PYTHONPATH=tools PYTHONDONTWRITEBYTECODE=1 python3 - "$room/over_c" "$room" <<'END'
 import pathlib
+import shutil
 import sys
 from concurrent.futures import ThreadPoolExecutor
 
@@ -32,6 +34,9 @@ import rows
 program, room = sys.argv[1], pathlib.Path(sys.argv[2]) / "rows"
 LEAST = 300
 NO_CALL = (75, 77)
+# A row of each call, for valgrind.
+WATCHED = ("dialogue/show show/message-sealed dialogue/judge-transfer judge/order-and-the-end audit/decoupled"
+           " audit/broken-off dialogue/check dialogue/explain certify/fork dialogue/verify run/fork").split()
 room.mkdir()
 all_rows = rows.read_rows()
 rows.lay_out(room, all_rows)
@@ -43,6 +48,9 @@ def differs(name):
     ran = rows.run([program, *row.words], room / "rows" / name)
     if ran.status in NO_CALL:
         return None
+    with_less = rows.run(["env", "FINTS_REFUSE=1", program, *row.words], room / "rows" / name)
+    if with_less != ran:
+        return f"over-c: {name}: with allocations refused {with_less}, and not {ran}"
     want = row.want
     is_refused = want.status > 1
     text = (want.err if is_refused else want.out, ran.err if is_refused else ran.out)
@@ -50,8 +58,7 @@ def differs(name):
 
 
 def over_limit(option, size):
-    """What comes of an input that is one byte too long, where it isn't the program's refusal. No contract asks a call
-    to look at the limits."""
+    """What comes of an input that is one byte too long, where it isn't the program's refusal."""
     paths = {"--params": "examples/c.fints", "--orders": "examples/orders-all.toml", "--message": "examples/balance.msg"}
     (room / "long").write_bytes(b" " * (size + 1))
     words = [it for pair in {**paths, option: str(room / "long")}.items() for it in pair]
@@ -60,10 +67,21 @@ def over_limit(option, size):
     return "" if good else f"over-c: {size + 1} bytes of {option}: {ran}"
 
 
+def is_unclean(name):
+    """What valgrind says of a row's call, where it finds something."""
+    words = ["valgrind", "-q", "--leak-check=full", "--error-exitcode=99", program, *all_rows[name].words]
+    ran = rows.run(words, room / "rows" / name)
+    return f"over-c: {name}: valgrind says {ran.err}" if ran.status == 99 else ""
+
+
 names = [it for it in all_rows if not it.startswith(("usage/", "help/"))]
 with ThreadPoolExecutor(4) as pool:
     found = list(pool.map(differs, names))
 found += [over_limit("--params", 4_194_304), over_limit("--orders", 1_048_576), over_limit("--message", 4_194_304)]
+if shutil.which("valgrind"):
+    found += map(is_unclean, WATCHED)
+else:
+    print("over-c: valgrind isn't installed, so it looks on at no call")
 wrong = [it for it in found if it]
 print("".join(f"{it}\n" for it in wrong), end="", file=sys.stderr)
 passed, left = found.count(""), found.count(None)

@@ -68,6 +68,16 @@ FINTS_CALL uint32_t fints_judge_after(const uint8_t *params, size_t params_size,
                                       const uint8_t *message, size_t message_size,
                                       uint8_t *buffer, size_t buffer_size, size_t *size);
 
+/* The same of several messages, each by itself, with one capture and one order table: before each verdict is the line
+ * "message N". They come one after another in `messages`, by their sizes; what is left after the last size is one
+ * message more, and all of them together have the limit of one message. Where one is no message, the offset in the
+ * line of the refusal is counted from the first. */
+FINTS_CALL uint32_t fints_judge_all(const uint8_t *params, size_t params_size,
+                                    const uint8_t *orders, size_t orders_size,
+                                    const uint8_t *messages, size_t messages_size,
+                                    const size_t *sizes, size_t sizes_count,
+                                    uint8_t *buffer, size_t buffer_size, size_t *size);
+
 /* Which rules the client's messages of a recording break, by a capture, or by the parameters in the bank's own answers:
  * `fints audit` with and without `--params`. */
 FINTS_CALL uint32_t fints_audit(const uint8_t *params, size_t params_size, const uint8_t *orders, size_t orders_size,

@@ -1,5 +1,5 @@
 -- What a caller in C gets: a status, as much of a text as fits into the buffer, and the size of the whole text.
-use Rattle.std.specs.Prelude.{◌≡◌, ◌<◌, ◌⊎◌, ℕ, List, [], ◌∷◌, ◌++◌, length, take, drop, zero, suc, Option, None, Some, Any}
+use Rattle.std.specs.Prelude.{◌≡◌, ◌<◌, ◌≤◌, ◌⊎◌, ℕ, List, [], ◌∷◌, ◌++◌, length, take, drop, slice_get, zero, suc, Option, None, Some, All}
 use Rattle.fints_cli.specs.Responses.{fault_line}
 use Rattle.fints_cli_commands.specs.Commands.{failure_status}
 use Rattle.fints_cli_commands.specs.declared.failing.Failure.{Failure}
@@ -12,12 +12,12 @@ use Rattle.fints_cli_words.specs.declared.requests.Input.TheVariants.{Params, Or
 -- ---- texts in the caller's buffer
 
 -- as much of the text as fits; after it the buffer is as it was
-abbrev pub put : List ℕ → List ℕ → List ℕ
-put text buffer = take (length buffer) text ++ drop (length text) buffer
+abbrev pub filled : List ℕ → List ℕ → List ℕ
+filled text buffer = take (length buffer) text ++ drop (length text) buffer
 
 -- the text was put into the buffer, and this is its size
 pub record IsPut (text old new : List ℕ) (size : ℕ) : Type 0 where
-  pub buffer : new ≡ put text old
+  pub buffer : new ≡ filled text old
   pub size_is : size ≡ length text
 
 -- a text for which this holds was put into the buffer
@@ -58,13 +58,22 @@ run_inputs orders script case = (Orders, length orders) ∷ (Script, length scri
 
 -- ---- refusals
 
--- the input is longer than its limit, and this is the failure
-abbrev pub IsOver : Failure → Input × ℕ → Type 0
-IsOver f input = (limit_of input.0 < input.1) × (f ≡ failures.Unread input.0)
+-- the input is as long as its limit, or shorter
+abbrev pub IsWithin : Input × ℕ → Type 0
+IsWithin input = input.1 ≤ limit_of input.0
 
--- one of the inputs, each with its size, is longer than its limit
-abbrev pub IsTooLong : List (Input × ℕ) → Failure → Type 0
-IsTooLong inputs f = Any (IsOver f) inputs
+-- each of the inputs, each with its size, is within its limit
+abbrev pub AreWithin : List (Input × ℕ) → Type 0
+AreWithin inputs = All IsWithin inputs
+
+-- one of the inputs is longer than its limit and those before it are not, and this is the failure
+pub record IsTooLong (inputs : List (Input × ℕ)) (f : Failure) : Type 0 where
+  pub place : ℕ
+  pub before : AreWithin (take place inputs)
+  pub over : Input × ℕ
+  pub there : slice_get inputs place ≡ Some over
+  pub longer : limit_of over.0 < over.1
+  pub failure_is : f ≡ failures.Unread over.0
 
 -- the inputs are refused so by their reader, or memory ran out
 abbrev pub IsRefusedAs : (Fault → Type 0) → Failure → Type 0

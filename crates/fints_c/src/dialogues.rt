@@ -1,7 +1,7 @@
 //! Which rules the messages of recorded dialogues break.
 ghost use Rattle.std.specs.Prelude.{◌≤◌, IfOk, IfErr};
 ghost use Rattle.fints_cli_texts.specs.Audit.{IsAuditOf, IsAuditRefusal, IsOwnAuditOf, IsOwnAuditRefusal};
-ghost use Rattle.fints_c.specs.Calls.{audit_inputs, own_inputs, IsFailure, IsGiven, IsRefused};
+ghost use Rattle.fints_c.specs.Calls.{audit_inputs, own_inputs, AreWithin, IsFailure, IsGiven, IsRefused};
 
 use crate::inputs::{read_capture, read_recording, within};
 use crate::putting::{put_failure, put_reply};
@@ -13,6 +13,7 @@ fn audited(alloc: Global, params: &[u8], orders: &[u8], dialogue: &[u8]) -> Resu
     ensures status { IfOk result (λ reply. reply.status ≤ 1) }
     ensures audited { IfOk result (λ reply.
         IsAuditOf params.now orders.now dialogue.now reply.status reply.text.items) }
+    ensures within { IfOk result (λ _. AreWithin (audit_inputs params.now orders.now dialogue.now)) }
     ensures refused { IfErr result (λ f. IsFailure (IsAuditRefusal params.now orders.now dialogue.now)
         (audit_inputs params.now orders.now dialogue.now) f) }
 {
@@ -48,6 +49,7 @@ pub extern "C" fn fints_audit(
     ensures audited { result ≤ 1
         → IsGiven (IsAuditOf params.now orders.now dialogue.now result)
         buffer.old buffer.new size.new }
+    ensures within { result ≤ 1 → AreWithin (audit_inputs params.now orders.now dialogue.now) }
     ensures refused { 2 ≤ result
         → IsRefused (IsAuditRefusal params.now orders.now dialogue.now)
         (audit_inputs params.now orders.now dialogue.now) result buffer.old buffer.new size.new }
@@ -62,6 +64,7 @@ fn audited_own(alloc: Global, orders: &[u8], dialogue: &[u8]) -> Result<Reply, F
     ensures status { IfOk result (λ reply. reply.status ≤ 1) }
     ensures audited { IfOk result (λ reply.
         IsOwnAuditOf orders.now dialogue.now reply.status reply.text.items) }
+    ensures within { IfOk result (λ _. AreWithin (own_inputs orders.now dialogue.now)) }
     ensures refused { IfErr result (λ f. IsFailure (IsOwnAuditRefusal orders.now dialogue.now)
         (own_inputs orders.now dialogue.now) f) }
 {
@@ -93,6 +96,7 @@ pub extern "C" fn fints_audit_own(
     ensures audited { result ≤ 1
         → IsGiven (IsOwnAuditOf orders.now dialogue.now result)
         buffer.old buffer.new size.new }
+    ensures within { result ≤ 1 → AreWithin (own_inputs orders.now dialogue.now) }
     ensures refused { 2 ≤ result
         → IsRefused (IsOwnAuditRefusal orders.now dialogue.now)
         (own_inputs orders.now dialogue.now) result buffer.old buffer.new size.new }

@@ -1,6 +1,6 @@
 //! The inputs of a call: their limits, and what is read of a capture and of a recording.
-ghost use Rattle.std.specs.Prelude.{IfErr};
-ghost use Rattle.fints_c.specs.Calls.{IsTooLong, IsRefusedAs};
+ghost use Rattle.std.specs.Prelude.{IfOk, IfErr};
+ghost use Rattle.fints_c.specs.Calls.{AreWithin, IsTooLong};
 ghost use Rattle.fints_params.specs.Captures.{IsReadOf};
 ghost use Rattle.fints_cli_texts.specs.Audit.{IsLogReadOf};
 
@@ -11,7 +11,8 @@ use std::alloc::Global;
 
 /// That no input is longer than the program takes as a file. Each comes with its size.
 pub fn within(inputs: &[(Input, usize)]) -> Result<(), Failure>
-    ensures { IfErr result (λ f. IsTooLong inputs.now f) }
+    ensures within { IfOk result (λ _. AreWithin inputs.now) }
+    ensures too_long { IfErr result (λ f. IsTooLong inputs.now f) }
 {
     for (input, size) in inputs {
         if input.limit() < *size {

@@ -1,6 +1,6 @@
 //! Texts in a caller's buffer.
 ghost use Rattle.std.specs.Prelude.{◌≡◌, ◌≤◌};
-ghost use Rattle.fints_c.specs.Calls.{put, IsPut};
+ghost use Rattle.fints_c.specs.Calls.{filled, IsPut};
 ghost use Rattle.fints_cli.specs.Responses.{fault_line};
 ghost use Rattle.fints_cli_commands.specs.Commands.{failure_status};
 
@@ -9,7 +9,7 @@ use fints_syntax_segments::FaultText;
 
 // Puts as much of a text into the buffer as fits.
 fn put(text: &[u8], buffer: &mut [u8])
-    ensures { buffer.new ≡ put text.now buffer.old }
+    ensures { buffer.new ≡ filled text.now buffer.old }
 {
     let n = text.len().min(buffer.len());
     let (front, _) = buffer.split_at_mut(n);

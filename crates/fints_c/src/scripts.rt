@@ -5,7 +5,7 @@ ghost use Rattle.fints_cli_scripts.specs.Told.{IsToldOf, IsTellRefusal};
 ghost use Rattle.fints_cli_scripts.specs.Verified.{IsVerifiedOf, IsUnverified};
 ghost use Rattle.fints_cli_scripts.specs.declared.telling.Wanted.TheVariants as wants;
 ghost use Rattle.fints_cli_commands.specs.Commands.{cases_wanted};
-ghost use Rattle.fints_c.specs.Calls.{run_inputs, script_inputs, verify_inputs, only_of, IsFailure, IsGiven, IsRefused};
+ghost use Rattle.fints_c.specs.Calls.{run_inputs, script_inputs, verify_inputs, only_of, AreWithin, IsFailure, IsGiven, IsRefused};
 
 use crate::inputs::{read_capture, within};
 use crate::putting::{put_failure, put_reply, put_text};
@@ -41,6 +41,7 @@ fn checked(
     ensures status { IfOk result (λ reply. reply.status ≤ 1) }
     ensures told { IfOk result (λ reply.
         IsToldOf wanted params.now orders.now script.now reply.status reply.text.items) }
+    ensures within { IfOk result (λ _. AreWithin (script_inputs params.now orders.now script.now)) }
     ensures refused { IfErr result (λ f. IsFailure (IsTellRefusal wanted params.now orders.now script.now)
         (script_inputs params.now orders.now script.now) f) }
 {
@@ -76,6 +77,7 @@ fn check(
     ensures told { result ≤ 1
         → IsGiven (IsToldOf wanted params.now orders.now script.now result)
         buffer.old buffer.new size.new }
+    ensures within { result ≤ 1 → AreWithin (script_inputs params.now orders.now script.now) }
     ensures refused { 2 ≤ result
         → IsRefused (IsTellRefusal wanted params.now orders.now script.now)
         (script_inputs params.now orders.now script.now) result buffer.old buffer.new size.new }
@@ -101,6 +103,7 @@ pub extern "C" fn fints_check(
     ensures told { result ≤ 1
         → IsGiven (IsToldOf wants.Report params.now orders.now script.now result)
         buffer.old buffer.new size.new }
+    ensures within { result ≤ 1 → AreWithin (script_inputs params.now orders.now script.now) }
     ensures refused { 2 ≤ result
         → IsRefused (IsTellRefusal wants.Report params.now orders.now script.now)
         (script_inputs params.now orders.now script.now) result buffer.old buffer.new size.new }
@@ -153,6 +156,7 @@ pub extern "C" fn fints_certify(
     ensures told { result ≤ 1
         → IsGiven (IsToldOf wants.Certificate params.now orders.now script.now result)
         buffer.old buffer.new size.new }
+    ensures within { result ≤ 1 → AreWithin (script_inputs params.now orders.now script.now) }
     ensures refused { 2 ≤ result
         → IsRefused (IsTellRefusal wants.Certificate params.now orders.now script.now)
         (script_inputs params.now orders.now script.now) result buffer.old buffer.new size.new }
@@ -178,6 +182,8 @@ fn verified(
     ensures status { IfOk result (λ reply. reply.status ≤ 1) }
     ensures told { IfOk result (λ reply.
         IsVerifiedOf params.now orders.now script.now certificate.now reply.status reply.text.items) }
+    ensures within { IfOk result
+        (λ _. AreWithin (verify_inputs params.now orders.now script.now certificate.now)) }
     ensures refused { IfErr result (λ f.
         IsFailure (IsUnverified params.now orders.now script.now certificate.now)
         (verify_inputs params.now orders.now script.now certificate.now) f) }
@@ -216,6 +222,8 @@ pub extern "C" fn fints_verify(
     ensures told { result ≤ 1
         → IsGiven (IsVerifiedOf params.now orders.now script.now certificate.now result)
         buffer.old buffer.new size.new }
+    ensures within { result ≤ 1
+        → AreWithin (verify_inputs params.now orders.now script.now certificate.now) }
     ensures refused { 2 ≤ result
         → IsRefused (IsUnverified params.now orders.now script.now certificate.now)
         (verify_inputs params.now orders.now script.now certificate.now)
@@ -236,6 +244,7 @@ fn ran(
 ) -> Result<Vec<u8>, Failure>
     ensures ran { IfOk result (λ text.
         IsRunOf orders.now script.now case_text.now (only_of number) text.items) }
+    ensures within { IfOk result (λ _. AreWithin (run_inputs orders.now script.now case_text.now)) }
     ensures refused { IfErr result (λ f.
         IsFailure (IsRunRefusal orders.now script.now case_text.now (only_of number))
         (run_inputs orders.now script.now case_text.now) f) }
@@ -267,6 +276,7 @@ pub extern "C" fn fints_run(
     ensures ran { result ≤ 1
         → IsGiven (IsRunOf orders.now script.now case_text.now (only_of number))
         buffer.old buffer.new size.new }
+    ensures within { result ≤ 1 → AreWithin (run_inputs orders.now script.now case_text.now) }
     ensures refused { 2 ≤ result
         → IsRefused (IsRunRefusal orders.now script.now case_text.now (only_of number))
         (run_inputs orders.now script.now case_text.now) result buffer.old buffer.new size.new }

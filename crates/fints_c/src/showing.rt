@@ -4,7 +4,7 @@ ghost use Rattle.fints_cli_texts.specs.Judge.{IsMessageRefusal};
 ghost use Rattle.fints_cli_texts.specs.Show.{IsShowOf, IsMemoryOrShowFault};
 ghost use Rattle.fints_cli_texts.specs.ShowMessage.{IsShownMessage};
 ghost use Rattle.fints_cli_words.specs.declared.requests.Input.TheVariants as inputs;
-ghost use Rattle.fints_c.specs.Calls.{IsFailure, IsGiven, IsRefused};
+ghost use Rattle.fints_c.specs.Calls.{AreWithin, IsFailure, IsGiven, IsRefused};
 
 use crate::inputs::within;
 use crate::putting::{put_failure, put_text};
@@ -13,6 +13,7 @@ use std::alloc::Global;
 
 fn shown(alloc: Global, params: &[u8]) -> Result<Vec<u8>, Failure>
     ensures shown { IfOk result (λ text. IsShowOf params.now text.items) }
+    ensures within { IfOk result (λ _. AreWithin ((inputs.Shown, length params.now) ∷ [])) }
     ensures refused { IfErr result (λ f.
         IsFailure (IsMemoryOrShowFault params.now) ((inputs.Shown, length params.now) ∷ []) f) }
 {
@@ -33,6 +34,7 @@ pub extern "C" fn fints_show(
 ) -> u32
     ensures status { result ≤ 5 }
     ensures shown { result ≤ 1 → IsGiven (IsShowOf params.now) buffer.old buffer.new size.new }
+    ensures within { result ≤ 1 → AreWithin ((inputs.Shown, length params.now) ∷ []) }
     ensures refused { 2 ≤ result
         → IsRefused (IsMemoryOrShowFault params.now) ((inputs.Shown, length params.now) ∷ [])
         result buffer.old buffer.new size.new }
@@ -45,6 +47,7 @@ pub extern "C" fn fints_show(
 
 fn shown_message(alloc: Global, message: &[u8]) -> Result<Vec<u8>, Failure>
     ensures shown { IfOk result (λ text. IsShownMessage message.now text.items) }
+    ensures within { IfOk result (λ _. AreWithin ((inputs.Message, length message.now) ∷ [])) }
     ensures refused { IfErr result (λ f.
         IsFailure (IsMessageRefusal message.now) ((inputs.Message, length message.now) ∷ []) f) }
 {
@@ -65,6 +68,7 @@ pub extern "C" fn fints_show_message(
 ) -> u32
     ensures status { result ≤ 5 }
     ensures shown { result ≤ 1 → IsGiven (IsShownMessage message.now) buffer.old buffer.new size.new }
+    ensures within { result ≤ 1 → AreWithin ((inputs.Message, length message.now) ∷ []) }
     ensures refused { 2 ≤ result
         → IsRefused (IsMessageRefusal message.now) ((inputs.Message, length message.now) ∷ [])
         result buffer.old buffer.new size.new }

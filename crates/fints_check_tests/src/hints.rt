@@ -20,7 +20,7 @@ fn capture(alloc: Global, byte: u8, count: usize) -> Result<Vec<u8>, AllocError>
     Ok(text)
 }
 
-// The hint for the refusal of a capture of which the second segment has as many of these bytes.
+// The hint for the refusal of a capture whose second segment has this many of these bytes.
 fn hint_of(alloc: Global, fault: SyntaxFault, byte: u8, count: usize) -> Result<String, Fail> {
     let text = capture(alloc, byte, count)?;
     let mut inputs = Inputs::none();

@@ -74,7 +74,7 @@ module _ (more : List NamedFile) (holds : Held) (a b : ReadCounts) where
   follows_first files (Unread input) h = unreadable_first files (option_of input) h
   follows_first files (Input fault) h = h
 
--- what is unreadable since later reads is so since earlier ones, none of which failed
+-- what is unreadable since later reads is so since earlier ones, where none of these failed
 module _ (holds : Held) (a b c : ReadCounts) (fine : NoneFailed a b)
     (counted : min a.calls (2 ^ 64 - 1) ≤ b.calls) where
   one_since : (held : Option (List ℕ)) (limit : ℕ) → IsUnreadable held limit b c → IsUnreadable held limit a c

@@ -25,15 +25,14 @@ use crate::reasons::Reasons;
 use fints_cli_drafts::{DraftText, Drafted, draft_read};
 use fints_cli_drawings::{draw_read, draw_script};
 use fints_cli_hints::DraftHint;
-use fints_cli_hints_dialogues::{AuditReasons, ReadLog, Source, dialogue_hint};
+use fints_cli_hints_dialogues::{AuditReasons, Source, file_hint};
 use fints_cli_hints_reasons::JudgeReasons;
 use fints_cli_hints_segments::{UnreadHint, skipped_notes};
 use fints_cli_hints_verdicts::{ReportReasons, VerifyReason};
 use fints_cli_records::{Record, log_note, record_read};
 use fints_cli_scripts::{Wanted, run_case, tell_read, verify_read};
 use fints_cli_texts::{
-    Fault, Reply, audit_own, audit_read, good_log, judge_after_read, judge_read, show_message_with,
-    show_read,
+    Fault, Reply, audit_own, audit_read, judge_after_read, judge_read, show_message_with, show_read,
 };
 use fints_params::{ParamFault, Params};
 use fints_rules_dialogues::{DialogueFault, Log, read_log};
@@ -99,8 +98,8 @@ fn note_of(
     }
 }
 
-// The refusal of a recording. Where a hint is wanted, it is made of the log that was read, and of what was said of
-// its messages.
+// The refusal of a recording, with what was said of its messages. Where the file is no log, and a hint is wanted, it
+// is made of the file.
 fn refused_log(
     alloc: Global,
     fault: Fault,
@@ -114,15 +113,11 @@ fn refused_log(
     let Fault::Dialogue(refused) = &fault else {
         return Refused { fault, seen };
     };
-    let read = ReadLog {
-        file: contents.dialogue.as_slice(),
-        log: good_log(log).ok(),
-    };
-    let seen = if hints {
-        let said = seen.as_ref().map(|text| text.as_str());
-        dialogue_hint(alloc, refused, &read, said).unwrap_or(None)
-    } else {
-        None
+    let seen = match log {
+        Err(_) if hints => {
+            file_hint(alloc, refused, contents.dialogue.as_slice()).unwrap_or(None)
+        }
+        _ => seen,
     };
     Refused { fault, seen }
 }
@@ -240,6 +235,16 @@ pub fn answer_judge_after(
     }
 }
 
+// What looks on while the recording is audited.
+fn audit_reasons<'c>(
+    alloc: Global,
+    hints: bool,
+    source: Source<'c>,
+    contents: &'c Contents,
+) -> AuditReasons<'c> {
+    AuditReasons::new(alloc, hints, source, contents.dialogue.as_slice())
+}
+
 /// The rules that the client's messages of a dialogue break.
 pub fn answer_audit(
     alloc: Global,
@@ -257,7 +262,7 @@ pub fn answer_audit(
 {
     let log = log_of(alloc, contents);
     let source = Source::Capture(contents.capture.as_slice());
-    let mut reasons = AuditReasons::new(alloc, hints, source);
+    let mut reasons = audit_reasons(alloc, hints, source, contents);
     match audit_read(
         alloc,
         params,
@@ -291,7 +296,7 @@ pub fn answer_audit_own(
         IsOwnAuditRefusal (table_text contents.now.orders) contents.now.dialogue.items r.fault) }
 {
     let log = log_of(alloc, contents);
-    let mut reasons = AuditReasons::new(alloc, hints, Source::Answers);
+    let mut reasons = audit_reasons(alloc, hints, Source::Answers, contents);
     match audit_own(alloc, contents.orders.as_slice(), &log, &mut reasons) {
         Ok(reply) => Ok(Answered {
             reply,
@@ -473,7 +478,7 @@ pub fn answer_draft(
 {
     let table = contents.orders.as_slice();
     let log = log_of(alloc, contents);
-    let mut hint = DraftHint::new(alloc, hints);
+    let mut hint = DraftHint::new(alloc, hints, contents.dialogue.as_slice());
     match draft_read(alloc, table, &log, number, drafted, &mut hint) {
         Ok(DraftText { text, has_secret }) => Ok(Answered {
             reply: Reply { status: 0, text },

@@ -93,8 +93,27 @@ pub fn refusal_of(alloc: Global, fault: Fault, inputs: &Inputs<'_>, hints: bool)
     }
 }
 
-/// A path as it is, in one line, or that it is standard input: a character that controls or ends a line is
-/// shown by its number.
+fn is_control(code: u32) -> bool {
+    code < 0x20 || (0x7f <= code && code < 0xa0)
+}
+
+fn ends_line(code: u32) -> bool {
+    code == 0x2028 || code == 0x2029
+}
+
+// Writes a character, or its number where it controls or ends a line.
+fn write_shown<W: Write>(f: &mut Formatter<W>, ch: char) -> fmt::Result {
+    let code = u32::from(ch);
+    if is_control(code) {
+        write!(f, "\\x{code:02x}")
+    } else if ends_line(code) {
+        write!(f, "\\u{{{code:x}}}")
+    } else {
+        f.write_char(ch)
+    }
+}
+
+// A path in one line, or that it is standard input.
 #[derive(Clone, Copy)]
 struct Path<'a>(&'a str);
 
@@ -104,12 +123,7 @@ impl Display for Path<'_> {
             return f.write_str("standard input");
         }
         for ch in self.0.chars() {
-            let code = u32::from(ch);
-            match ch {
-                '\u{0}'..='\u{1f}' | '\u{7f}'..='\u{9f}' => write!(f, "\\x{code:02x}")?,
-                '\u{2028}' | '\u{2029}' => write!(f, "\\u{{{code:x}}}")?,
-                _ => f.write_char(ch)?,
-            }
+            write_shown(f, ch)?;
         }
         Ok(())
     }

@@ -18,14 +18,13 @@ use fints_cli_drafts_accounts::offers_of;
 use fints_cli_texts::{Fault, good_log};
 use fints_rules::OrderTable;
 use fints_rules_dialogues::{
-    DialogueFault, DialoguePart, Exchange, Log, part_of, read_dialogue_with,
+    DialogueFault, DialoguePart, Exchange, Log, TurnObserver, part_of, read_dialogue_with,
 };
-use fints_rules_messages::UnreadObserver;
 use fints_script::{Answer, Case, CaseFault, Values};
 use std::alloc::Global;
 
 /// What looks on while a recording is drafted. No contract says what it makes of it.
-pub trait DraftObserver: UnreadObserver {
+pub trait DraftObserver: TurnObserver {
     /// Looks at the exchanges of a recording that has no draft, and at the refusal.
     fn undrafted(&mut self, exchanges: &[Exchange<'_>], fault: &Fault);
 }
@@ -228,7 +227,7 @@ fn draft_part<O: DraftObserver>(
 /// recording. In comments the script says which orders name an account, by the text of an order table. Of
 /// the refusals that of the order table comes first, then that of the recording, then that it has no dialogue
 /// of the number, and then that no draft was found, with the first segment that would be sent otherwise.
-/// Where a message of the client is none, or there is no draft, the observer sees why.
+/// Where a message is refused, or there is no draft, the observer sees why.
 pub fn draft_read<O: DraftObserver>(
     alloc: Global,
     orders: &[u8],

@@ -26,7 +26,7 @@ pub enum LoadFault {
     /// The file doesn't come to its end within the calls.
     #[error("it comes in too many pieces")]
     TooManyCalls,
-    /// A growth was refused.
+    /// Memory ran out.
     #[error("memory")]
     Memory,
 }

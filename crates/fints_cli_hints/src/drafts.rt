@@ -1,10 +1,11 @@
 //! What the refusal of a draft is about, by what was read of its recording.
 use fints_cli_drafts::DraftObserver;
-use fints_cli_hints_dialogues::{draft_hint, part_hint};
-use fints_cli_hints_segments::UnreadHint;
+use fints_cli_hints_dialogues::{RefusedHint, draft_hint, part_hint};
 use fints_cli_hints_words::places::HintText;
 use fints_cli_texts::Fault;
-use fints_rules_dialogues::{Exchange, Unread, UnreadObserver};
+use fints_rules_dialogues::{
+    DialogueFault, Exchange, RecordedMessage, Turn, TurnObserver, Unread, UnreadObserver,
+};
 use std::alloc::Global;
 
 fn undrafted_hint(alloc: Global, exchanges: &[Exchange<'_>], fault: &Fault) -> HintText {
@@ -17,22 +18,22 @@ fn undrafted_hint(alloc: Global, exchanges: &[Exchange<'_>], fault: &Fault) -> H
     }
 }
 
-/// The hint of a recording that has no draft, or in which a message of the client is none.
+/// The hint of a recording that has no draft, or in which a message is refused.
 #[derive(Drop)]
-pub struct DraftHint {
+pub struct DraftHint<'f> {
     alloc: Global,
     wanted: bool,
-    unread: UnreadHint,
+    refused: RefusedHint<'f>,
     undrafted: Option<String>,
 }
 
-impl DraftHint {
-    /// One that has seen nothing yet, and says nothing where no hint is wanted.
-    pub fn new(alloc: Global, wanted: bool) -> DraftHint {
+impl<'f> DraftHint<'f> {
+    /// One that has seen nothing yet of that file, and says nothing where no hint is wanted.
+    pub fn new(alloc: Global, wanted: bool, file: &'f [u8]) -> DraftHint<'f> {
         DraftHint {
             alloc,
             wanted,
-            unread: UnreadHint::new(alloc, wanted),
+            refused: RefusedHint::new(alloc, wanted, file),
             undrafted: None,
         }
     }
@@ -40,24 +41,30 @@ impl DraftHint {
     /// What it says. None where nothing was refused, or memory ran out.
     pub fn into_text(self) -> Option<String> {
         let DraftHint {
-            unread,
+            refused,
             undrafted,
             ..
         } = self;
         match undrafted {
             Some(text) => Some(text),
-            None => unread.into_text(),
+            None => refused.into_text(),
         }
     }
 }
 
-impl UnreadObserver for DraftHint {
+impl UnreadObserver for DraftHint<'_> {
     fn unread(&mut self, bytes: &[u8], unread: &Unread<'_>) {
-        self.unread.unread(bytes, unread);
+        self.refused.unread(bytes, unread);
     }
 }
 
-impl DraftObserver for DraftHint {
+impl TurnObserver for DraftHint<'_> {
+    fn refused(&mut self, due: Turn, sent: &RecordedMessage<'_>, fault: &DialogueFault) {
+        self.refused.refused(due, sent, fault);
+    }
+}
+
+impl DraftObserver for DraftHint<'_> {
     fn undrafted(&mut self, exchanges: &[Exchange<'_>], fault: &Fault) {
         if self.wanted {
             self.undrafted = undrafted_hint(self.alloc, exchanges, fault).unwrap_or(None);

@@ -14,6 +14,6 @@ mod undrafted;
 mod untold;
 
 pub use reasons::AuditReasons;
-pub use refused::{ReadLog, dialogue_hint};
+pub use refused::{RefusedHint, file_hint};
 pub use sources::Source;
 pub use undrafted::{draft_hint, part_hint};

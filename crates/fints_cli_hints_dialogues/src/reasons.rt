@@ -1,13 +1,15 @@
 //! Why the messages of a recorded dialogue break the rules that `audit` names.
 use crate::captured::CapturedNotes;
 use crate::notes::Notes;
+use crate::refused::RefusedHint;
 use crate::sources::{Indexes, Source, capture_of};
 use crate::untold::parameters_hint;
-use fints_cli_hints_segments::UnreadHint;
 use fints_cli_hints_words::places::{HintText, written};
 use fints_rules::{AccountForm, Broken, Message, Permissions};
-use fints_rules_dialogues::{Exchange, Heard, Observer, ToldIn};
-use fints_rules_messages::{Unread, UnreadObserver};
+use fints_rules_dialogues::{
+    DialogueFault, Exchange, Heard, Observer, RecordedMessage, ToldIn, Turn, TurnObserver, Unread,
+    UnreadObserver,
+};
 use fints_syntax::Memory;
 use std::alloc::Global;
 
@@ -22,7 +24,7 @@ fn names_account(permissions: &Permissions<'_>, message: &Message<'_>) -> bool {
 
 /// The reasons of what the client's messages of a dialogue break, in the order in which `audit` names them:
 /// a line for each rule, why it is broken and what to change; and then the notes on its messages. And the hint
-/// of a message that is none, or of parameters that are missing.
+/// of a message that is refused, or of parameters that are missing.
 #[derive(Drop)]
 pub struct AuditReasons<'c> {
     alloc: Global,
@@ -36,14 +38,19 @@ pub struct AuditReasons<'c> {
     unknown: bool,
     // Whether memory ran out.
     failed: bool,
-    hint: UnreadHint,
+    hint: RefusedHint<'c>,
     // Whose parameters are missing.
     lacking: Option<String>,
 }
 
 impl<'c> AuditReasons<'c> {
-    /// Those by the parameters that were read there.
-    pub fn new(alloc: Global, wanted: bool, source: Source<'c>) -> AuditReasons<'c> {
+    /// Those of the recording in a file, by the parameters that were read there.
+    pub fn new(
+        alloc: Global,
+        wanted: bool,
+        source: Source<'c>,
+        file: &'c [u8],
+    ) -> AuditReasons<'c> {
         AuditReasons {
             alloc,
             wanted,
@@ -54,7 +61,7 @@ impl<'c> AuditReasons<'c> {
             captured: CapturedNotes::new(alloc),
             unknown: false,
             failed: false,
-            hint: UnreadHint::new(alloc, wanted),
+            hint: RefusedHint::new(alloc, wanted, file),
             lacking: None,
         }
     }
@@ -74,7 +81,7 @@ impl<'c> AuditReasons<'c> {
         Ok(Some(text))
     }
 
-    /// Why a message of the client is none, or whose parameters are missing; none where nothing is wrong.
+    /// Why a message is refused, or whose parameters are missing; none where nothing is wrong.
     pub fn into_hint(self) -> Option<String> {
         let AuditReasons { hint, lacking, .. } = self;
         match lacking {
@@ -157,6 +164,12 @@ impl<'c> AuditReasons<'c> {
 impl UnreadObserver for AuditReasons<'_> {
     fn unread(&mut self, bytes: &[u8], unread: &Unread<'_>) {
         self.hint.unread(bytes, unread);
+    }
+}
+
+impl TurnObserver for AuditReasons<'_> {
+    fn refused(&mut self, due: Turn, sent: &RecordedMessage<'_>, fault: &DialogueFault) {
+        self.hint.refused(due, sent, fault);
     }
 }
 

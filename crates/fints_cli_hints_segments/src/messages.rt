@@ -228,6 +228,11 @@ impl UnreadHint {
     }
 
     /// What it says of the last bytes that were no message. None where there were none, or memory ran out.
+    pub fn text(&self) -> Option<&str> {
+        self.text.as_ref().map(|text| text.as_str())
+    }
+
+    /// The same, handed over.
     pub fn into_text(self) -> Option<String> {
         self.text
     }

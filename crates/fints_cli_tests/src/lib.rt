@@ -1,4 +1,4 @@
-//! Tests that cross crates: files and streams in memory that fail when they are told to, inputs
+//! Tests that cross crates: files and streams in memory that fail on demand, inputs
 //! that are too long for a row of `rows/`, and calls that no command makes.
 #![tactic(auto)]
 

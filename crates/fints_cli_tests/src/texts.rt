@@ -1,4 +1,4 @@
-//! The calls behind the commands.
+//! The calls that the commands make.
 use fints_cli::{
     Asked, Command, Fault, Wanted, built_in, draw_script, judge_message, read_words, run_case,
     show, show_message, tell_script, verify_script,

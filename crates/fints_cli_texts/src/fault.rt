@@ -16,7 +16,7 @@ use thiserror::Error;
 #[derive(Clone, Copy, Debug, PartialEq, Eq, Error)]
 #[error("{}", self.text())]
 pub enum Fault {
-    /// A growth was refused.
+    /// Memory ran out.
     Memory,
     /// The capture is refused; memory that ran out is no such refusal.
     Params(ParamFault),
@@ -46,8 +46,7 @@ pub enum Fault {
     NoCode,
     /// The bytes are no message; memory that ran out is no such refusal.
     Message(JudgeFault),
-    /// The bytes are no recorded dialogue, or it tells no parameters; want of memory is no such
-    /// refusal.
+    /// The bytes are no recorded dialogue, or it has no parameters; memory that ran out is no such refusal.
     Dialogue(DialogueFault),
     /// No draft sends this segment of a message of the recorded dialogue as it was recorded. The
     /// client's messages count from 1, and the segment has the number in its head: 0 is the message as

@@ -2,15 +2,15 @@
 use fints_params::Params;
 use fints_rules::{Broken, OrderTable, Permissions};
 use fints_rules_dialogues::{
-    Audited, DialogueFault, Exchange, Heard, Log, Observer, OwnParams, OwnPermissions, Recording,
-    ToldIn, Unread, UnreadObserver, audit, audit_exchanges, is_answer, read_dialogue,
-    read_dialogue_with, read_log,
+    Audited, DialogueFault, Exchange, Heard, Log, Observer, OwnParams, OwnPermissions,
+    RecordedMessage, Recording, ToldIn, Turn, TurnObserver, Unread, UnreadObserver, audit,
+    audit_exchanges, is_answer, read_dialogue, read_dialogue_with, read_log,
 };
 use fints_samples::T;
 use std::alloc::Global;
 use std::test::Fail;
 
-// The end of a dialogue, and an answer that tells parameters.
+// The end of a dialogue, and an answer with parameters.
 const DIALOGUE: &[u8] =
     b"HNHBK:1:3+000000000055+300+0+1'HKEND:2:1+0'HNHBS:3:1+1'\r\nHNHBK:1:3+000000000137+300+0+1'HIRMG:2:2+0010::OK'HIBPA:3:3+12+280:10020030+Bank+1+1+300+0'HIPINS:4:1+1+1+0+5:38:6:::HKSAL:N'HNHBS:5:1+1'";
 
@@ -19,16 +19,24 @@ const DIALOGUE: &[u8] =
 struct Counter {
     exchanges: usize,
     offset: Option<usize>,
+    due: Option<Turn>,
 }
 
 const NOTHING_SEEN: Counter = Counter {
     exchanges: 0,
     offset: None,
+    due: None,
 };
 
 impl UnreadObserver for Counter {
     fn unread(&mut self, _bytes: &[u8], unread: &Unread<'_>) {
         self.offset = Some(unread.offset);
+    }
+}
+
+impl TurnObserver for Counter {
+    fn refused(&mut self, due: Turn, _sent: &RecordedMessage<'_>, _fault: &DialogueFault) {
+        self.due = Some(due);
     }
 }
 
@@ -186,7 +194,7 @@ fn no_parameters(rt: HostRuntime) -> Result<(), Fail> {
     Ok(())
 }
 
-// Whether the one answer tells of the bank alone, in a dialogue without a customer.
+// Whether the one answer has parameters of the bank only, in a dialogue without a customer.
 fn tells_of_the_bank(own: &OwnParams<'_>) -> bool {
     match own.heard() {
         [heard] => {
@@ -234,8 +242,10 @@ const UNANSWERED: &[u8] =
 #[test]
 fn an_answer_is_missing(rt: HostRuntime) -> Result<(), Fail> {
     let log = read_log(rt.alloc(), UNANSWERED)?;
-    let fault = read_dialogue(rt.alloc(), &log).err();
+    let mut seen = NOTHING_SEEN;
+    let fault = read_dialogue_with(rt.alloc(), &log, &mut seen).err();
     assert_eq!(rt; fault, Some(DialogueFault::NotInTurn { offset: 55 }));
+    assert!(rt; is_due(&seen, 1, true));
     Ok(())
 }
 
@@ -256,6 +266,14 @@ fn no_dialogue(rt: HostRuntime) {
     assert_eq!(rt; fault, Some(DialogueFault::NoMessage));
 }
 
+// Whether what was refused is the client's message of this number, or the answer to it.
+fn is_due(seen: &Counter, number: usize, is_answer: bool) -> bool {
+    match seen.due {
+        Some(due) => due.number == number && due.is_answer == is_answer,
+        None => false,
+    }
+}
+
 // Its second segment has the number 3.
 const MISNUMBERED: &[u8] = b"\nHNHBK:1:3+000000000055+300+0+1'HKEND:3:1+0'HNHBS:3:1+1'";
 
@@ -266,5 +284,6 @@ fn an_unread_message(rt: HostRuntime) -> Result<(), Fail> {
     let fault = read_dialogue_with(rt.alloc(), &log, &mut seen).err();
     assert_eq!(rt; fault, Some(DialogueFault::NotAMessage { offset: 32 }));
     assert_eq!(rt; seen.offset, Some(31));
+    assert!(rt; is_due(&seen, 1, false));
     Ok(())
 }

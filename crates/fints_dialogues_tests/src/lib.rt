@@ -1,4 +1,5 @@
-//! Tests of logs, recorded dialogues and the parts of drafts: what no row of `rows/` can show.
+//! Tests of logs, recorded dialogues, the parts of drafts, and verdicts on several messages: what no row of `rows/` can
+//! show.
 #![tactic(auto)]
 
 #[cfg(test)]
@@ -13,3 +14,5 @@ mod draft_texts;
 mod logs;
 #[cfg(test)]
 mod offers;
+#[cfg(test)]
+mod verdicts;

@@ -5,7 +5,7 @@ use fints_rules_dialogues::{part_of, read_dialogue, read_log};
 use std::alloc::Global;
 use std::test::Fail;
 
-// The answer to the first message tells three accounts: two may ask for their balance (HKSAL).
+// The answer to the first message names three accounts: two may ask for their balance (HKSAL).
 const RECORDED: &[u8] =
     b"HNHBK:1:3+000000000099+300+0+1'HKIDN:2:2+280:10020030+cust+0+1'HKVVB:3:3+0+0+0+fints+1'HNHBS:4:1+1'\
     HNHBK:1:3+000000000367+300+7+1+7:1'HIRMG:2:2+0010::OK'HIBPA:3:3+12+280:10020030+Bank+1+1+300+0'HIPINS:4:1+1+1+0+5:38:6:::HKSAL:N'HIUPA:5:4+user+3+0'HIUPD:6:6+1234567::280:10020030+DE111+cust+1+EUR+Name++Giro++HKSAL:0'HIUPD:7:6+7654321::280:10020030+DE222+cust+1+EUR+Name++Giro++HKSAL:0'HIUPD:8:6+4444444::280:10020030+DE444+cust+1+EUR+Name++Giro++HKCAZ:1'HNHBS:9:1+1'\

@@ -1,4 +1,4 @@
--- What an outbox shows of its fields, and what it keeps of them. Its model alone cites these words.
+-- What an outbox shows of its fields, and what it keeps of them. Only its model cites these words.
 use Rattle.fints_example_outbox.specs.Outboxes.{OutboxValue, EachWasPermitted}
 use Rattle.fints_example_outbox.specs.declared.outbox.Outbox.TheInside.{Inside}
 

@@ -19,7 +19,7 @@ fn tell_broken(rt: &HostRuntime, name: &str, broken: &[Broken]) -> Result<()> {
     Ok(())
 }
 
-// Hands the message of a file on, or tells why it is held back.
+// Hands the message of a file on, or prints why it is held back.
 fn send(rt: &HostRuntime, outbox: &mut Outbox<'_>, name: &str) -> Result<()> {
     let message = fs::read(rt, name)?;
     match outbox.send(message.as_slice()) {

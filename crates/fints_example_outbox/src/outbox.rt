@@ -13,30 +13,30 @@ use std::marker::Model;
 
 /// A message that was handed on, and the codes of the bank's answer that was heard before it.
 #[derive(Drop)]
-pub struct Sent {
+pub struct HandedOn {
     message: Bytes,
     heard: Vec<Code>,
 }
 
-impl Model for Sent {
-    ghost use Rattle.fints_example_outbox.specs.Outboxes.{SentValue};
+impl Model for HandedOn {
+    ghost use Rattle.fints_example_outbox.specs.Outboxes.{HandedOnValue};
 
-    ghost Value = { SentValue };
+    ghost Value = { HandedOnValue };
 
     ghost view = { λ s. record { message = s.message; heard = s.heard.items } };
 }
 
-impl Sent {
+impl HandedOn {
     pub fn message(&self) -> &[u8]
         ensures { result.now ≡ self.now.message }
     {
         self.message.as_slice()
     }
 
-    fn copied(alloc: Global, message: &[u8], heard: &[Code]) -> Result<Sent, Memory>
+    fn copied(alloc: Global, message: &[u8], heard: &[Code]) -> Result<HandedOn, Memory>
         ensures { IfOk result (λ s. s ≡ record { message = message.now; heard = heard.now }) }
     {
-        Ok(Sent {
+        Ok(HandedOn {
             message: Bytes::copied(alloc, message)?,
             heard: heard.to_vec(alloc)?,
         })
@@ -49,7 +49,7 @@ impl Sent {
 pub struct Outbox<'a> {
     alloc: Global,
     permissions: &'a Permissions<'a>,
-    sent: Vec<Sent>,
+    sent: Vec<HandedOn>,
     codes: Vec<Code>,
 }
 
@@ -88,11 +88,16 @@ impl From<Memory> for Held {
     }
 }
 
-fn keep(alloc: Global, sent: &mut Vec<Sent>, message: &[u8], heard: &[Code]) -> Result<(), Memory>
+fn keep(
+    alloc: Global,
+    sent: &mut Vec<HandedOn>,
+    message: &[u8],
+    heard: &[Code],
+) -> Result<(), Memory>
     ensures kept { OnOk result (sent.new.items ≡ with_sent sent.old.items message.now heard.now) }
     ensures full { OnErr result (sent.new.items ≡ sent.old.items) }
 {
-    sent.push(Sent::copied(alloc, message, heard)?)?;
+    sent.push(HandedOn::copied(alloc, message, heard)?)?;
     Ok(())
 }
 
@@ -156,7 +161,7 @@ impl<'a> Outbox<'a> {
     }
 
     /// What was handed on, each message permitted after the one before it.
-    pub fn sent(&self) -> &[Sent]
+    pub fn sent(&self) -> &[HandedOn]
         ensures sent { result.now ≡ self.now.sent }
         ensures permitted { EachWasPermitted self.now.granted result.now }
     {

@@ -18,6 +18,7 @@ use Rattle.fints_syntax.specs.declared.text.Item.{Item}
 use Rattle.fints_syntax.specs.declared.text.Item.TheVariants as items
 use Rattle.fints_rules_messages.specs.Messages.{MessageView}
 use Rattle.fints_rules.specs.Facts.{count_of, segment_facts, six_items}
+use Rattle.fints_rules.specs.Tallies.{counts_in}
 use Rattle.fints_rules.specs.Leading.{first_value}
 use Rattle.fints_rules_messages.proofs.ItemValues.{value_at-place, value-none, value-some}
 
@@ -136,12 +137,12 @@ at_place trees segments i t s is lt at found =
 -- the facts of the segment at a place
 pub facts_at : (m : MessageView) (trees : List (List (List Spelled))) (i : ℕ)
     (t : List (List Spelled)) (h : Head) (s : OwnedSegment) (leading : List (List (List ℕ)))
-    (lead : List (List ℕ)) (count : ℕ)
+    (lead : List (List ℕ)) (counts : List ℕ) (count : ℕ)
     → segments_of trees ≡ m.body → i < length m.body → t ≡ get_or trees i t → slice_get m.body i ≡ Some s
     → head_of (values_of t) ≡ Some h → leading ≡ map six_items m.body → lead ≡ get_or leading i lead
-    → count ≡ count_of h.id m.body
+    → counts ≡ counts_in m.body m.body → count ≡ get_or counts i count
     → record { kind = h.id; version = h.version; items = lead; count = count } ≡ segment_facts m s
-facts_at m trees i t h s leading lead count is lt at found head all lead_is count_is =
+facts_at m trees i t h s leading lead counts count is lt at found head all lead_is counted count_is =
     let here : segment_of t ≡ s = at_place trees m.body i t s is lt at found in
     let same : h ≡ s.head = sym (head_is t h head) ∙ ap (λ (x : OwnedSegment). x.head) here in
     let there : Some (get_or m.body i s) ≡ Some s = sym (slice_get-get_or m.body i s lt) ∙ found in
@@ -151,5 +152,8 @@ facts_at m trees i t h s leading lead count is lt at found head all lead_is coun
     ∙ get_or-map six_items m.body i s lead lt ∙ ap six_items self in
     let kind : h.id ≡ s.head.id = ap (λ (x : Head). x.id) same in
     let version : h.version ≡ s.head.version = ap (λ (x : Head). x.version) same in
-    let counted : count ≡ count_of s.head.id m.body = count_is ∙ ap (λ k. count_of k m.body) kind in
+    let same_kind = λ (x : OwnedSegment). count_of x.head.id m.body in
+    let count_at : count ≡ count_of s.head.id m.body =
+    count_is ∙ ap (λ (cs : List ℕ). get_or cs i count) counted
+    ∙ get_or-map same_kind m.body i s count lt ∙ ap same_kind self in
     cc

@@ -3,18 +3,19 @@ ghost use Rattle.std.specs.Prelude.{◌≡◌, length, map, Some, IfOk, IfErr, o
 ghost use Rattle.std.specs.List.{AllByRecursion};
 ghost use Rattle.fints_rules_dialogues.specs.Dialogues.{IsExchange, IsMemoryOrRefusal, IsTurnFault};
 ghost use Rattle.fints_rules_dialogues.specs.Auditing.{before_in, codes_told, AreAudited, AreAuditedInTurn, IsAuditedNext, IsExchangeOrNone, IsJudgedNext, IsOwnAudit};
-ghost use Rattle.fints_rules_dialogues.specs.OwnParams.{IsOwnParamsFault, LacksBank, granted_each};
+ghost use Rattle.fints_rules_dialogues.specs.OwnParams.{AreHeard, IsOwnParamsFault, IsRefusedAnswer, LacksBank, granted_each};
 ghost use Rattle.fints_rules_dialogues.specs.declared.fault.DialogueFault.TheVariants as fault;
 
 use crate::fault::DialogueFault;
 use crate::messages::RecordedMessage;
 use crate::own_params::{Heard, OwnParams};
-use crate::reading::{Exchange, message_count, read_exchange};
+use crate::reading::{Exchange, message_count, next_exchange};
 use crate::recording::Recording;
 use crate::sources::{Basis, OwnPermissions, ToldIn};
+use crate::turn::{TurnObserver, show_refused_answer};
 use fints_params::Code;
 use fints_rules::{Broken, OrderTable, Permissions, judge_message, judge_message_after};
-use fints_rules_messages::{Unobserved, UnreadObserver};
+use fints_rules_messages::Unobserved;
 use fints_syntax::Memory;
 use std::alloc::Global;
 
@@ -28,7 +29,7 @@ pub struct Audited<'a> {
 }
 
 /// What looks on while a recording is audited. No contract says what it makes of it.
-pub trait Observer: UnreadObserver {
+pub trait Observer: TurnObserver {
     /// Looks at the next exchange, and at the rules that its message breaks under these permissions, which
     /// come from these answers.
     fn observe(
@@ -144,7 +145,7 @@ pub fn audit<'a, O: Observer>(
     while at < messages.len() {
         let (_, rest) = messages.split_at(at);
         let earlier = before.as_ref();
-        let exchange = read_exchange(alloc, earlier, rest, observer)?;
+        let exchange = next_exchange(alloc, audited.len(), earlier, rest, observer)?;
         let one = audit_next(alloc, permissions, HANDED_IN, earlier, &exchange, observer)?;
         audited.push(one)?;
         at += message_count(&exchange);
@@ -183,6 +184,24 @@ fn audit_each<'a, O: Observer>(
     Ok(audited)
 }
 
+// What the answers say. The refusal is that of `OwnParams::of`, and the observer sees the answer.
+fn own_params_of<'a, O: Observer>(
+    alloc: Global,
+    exchanges: &[Exchange<'a>],
+    observer: &mut O,
+) -> Result<OwnParams<'a>, DialogueFault>
+    ensures heard { IfOk result (λ own. AreHeard exchanges.now own) }
+    ensures refused { IfErr result (λ f. IsMemoryOrRefusal (IsRefusedAnswer exchanges.now) f) }
+{
+    match OwnParams::of(alloc, exchanges) {
+        Ok(own) => Ok(own),
+        Err(fault) => {
+            show_refused_answer(exchanges, &fault, observer);
+            Err(fault)
+        }
+    }
+}
+
 // By what the message of each exchange is judged. The refusal is that of `OwnPermissions::each`.
 fn bases_of<'g, 'a, O: Observer>(
     alloc: Global,
@@ -217,7 +236,7 @@ pub fn audit_exchanges<'a, O: Observer>(
         → IsOwnAudit orders.now exchanges.now audited.items) }
     ensures refused { IfErr result (λ f. IsMemoryOrRefusal (IsOwnParamsFault exchanges.now) f) }
 {
-    let own = OwnParams::of(alloc, exchanges)?;
+    let own = own_params_of(alloc, exchanges, observer)?;
     let permissions = OwnPermissions::of(alloc, &own, orders)?;
     let bases = bases_of(alloc, &own, &permissions, observer)?;
     let audited = audit_each(alloc, bases.as_slice(), exchanges, observer)?;

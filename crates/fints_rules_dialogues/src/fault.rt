@@ -8,23 +8,22 @@ use fints_syntax::{FaultText, Memory};
 use std::alloc::{AllocError, AllocFailed};
 use thiserror::Error;
 
-/// Why bytes are no recorded dialogue, or tell no parameters. The offsets are counted in the file,
-/// from 0.
+/// Why bytes are no recorded dialogue, or say no parameters. The offsets are counted in the file, from 0.
 #[derive(Clone, Copy, Debug, PartialEq, Eq, Error)]
 #[error("{}", self.text())]
 pub enum DialogueFault {
-    /// A growth was refused.
+    /// Memory ran out.
     Memory,
-    /// Nothing stands in the file but CR and LF.
+    /// No message begins in the file.
     NoMessage,
-    /// No message stands there: no HNHBK with the size in 12 digits, or fewer bytes than it says; or
+    /// No message begins there: no HNHBK with the size in 12 digits, or fewer bytes than it says; or
     /// a message of the client ceases there to be one.
     NotAMessage { offset: usize },
     /// The message that begins there is the bank's where the client's is due, or the client's where
     /// the bank's is due.
     NotInTurn { offset: usize },
     /// The bank's answer that begins there is refused, by its feedback or as a capture of parameters.
-    /// An offset in that fault is counted in the answer, from 0; want of memory is no such refusal.
+    /// An offset in that fault is counted in the answer, from 0. Where memory runs out, the fault is `Memory`.
     Answer { start: usize, fault: ParamFault },
     /// No answer has a HIBPA version 3 and a HIPINS version 1.
     NoParameters,

@@ -11,6 +11,7 @@ mod parts;
 mod reading;
 mod recording;
 mod sources;
+mod turn;
 
 pub use auditing::{Audited, Observer, audit, audit_exchanges};
 pub use fault::DialogueFault;
@@ -23,3 +24,4 @@ pub use parts::{DialoguePart, part_of};
 pub use reading::{Answer, Exchange, is_answer};
 pub use recording::{Recording, read_dialogue, read_dialogue_with};
 pub use sources::{Basis, OwnPermissions, ToldIn};
+pub use turn::{Turn, TurnObserver};

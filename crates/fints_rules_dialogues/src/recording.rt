@@ -5,9 +5,10 @@ ghost use Rattle.fints_rules_dialogues.specs.Dialogues.{IsExchange, IsTurnFault,
 
 use crate::fault::DialogueFault;
 use crate::messages::{RecordedMessage, sents_of};
-use crate::reading::{Exchange, message_count, read_exchange};
+use crate::reading::{Exchange, message_count, next_exchange};
+use crate::turn::TurnObserver;
 use fints_rules_logs::Log;
-use fints_rules_messages::{Unobserved, UnreadObserver};
+use fints_rules_messages::Unobserved;
 use fints_syntax::Memory;
 use std::alloc::Global;
 use std::marker::Model;
@@ -52,9 +53,9 @@ impl<'a> Recording<'a> {
     /// code is the bank's answer. An answer may be missing where the recording ends, and where the next
     /// message opens another dialogue: it has dialogue id 0 and number 1. The refusal is the first, message
     /// by message: one of the client that is none, that has a HIRMG, or that comes where an answer is due;
-    /// one of the bank whose feedback is refused (FinTS 3.0, Formals, messages and feedback). Where one of
-    /// the client is none, the observer sees why.
-    pub fn exchanges<O: UnreadObserver>(
+    /// one of the bank whose feedback is refused (FinTS 3.0, Formals, messages and feedback). The observer
+    /// sees which, and where it is no message, why.
+    pub fn exchanges<O: TurnObserver>(
         &self,
         alloc: Global,
         observer: &mut O,
@@ -67,7 +68,8 @@ impl<'a> Recording<'a> {
         let mut at = 0;
         while at < messages.len() {
             let (_, rest) = messages.split_at(at);
-            let exchange = read_exchange(alloc, exchanges.last(), rest, observer)?;
+            let count = exchanges.len();
+            let exchange = next_exchange(alloc, count, exchanges.last(), rest, observer)?;
             at += message_count(&exchange);
             exchanges.push(exchange)?;
         }
@@ -75,9 +77,9 @@ impl<'a> Recording<'a> {
     }
 }
 
-/// The exchanges of a log, of one dialogue or of several. The refusal is the first, message by message. Where a
-/// message of the client is none, the observer sees why.
-pub fn read_dialogue_with<'a, O: UnreadObserver>(
+/// The exchanges of a log, of one dialogue or of several. The refusal is the first, message by message. The
+/// observer sees which, and where it is no message, why.
+pub fn read_dialogue_with<'a, O: TurnObserver>(
     alloc: Global,
     log: &'a Log<'_>,
     observer: &mut O,

@@ -87,7 +87,7 @@ fn sealed_segments(rt: HostRuntime) -> Result<(), Fail> {
     Ok(())
 }
 
-// Kinds that nobody reads, numbers with an escape or as binary items, and HITANS stand among the others.
+// Kinds that nobody reads, numbers with an escape or as binary items, and HITANS come among the others.
 #[test]
 fn glanced_segments(rt: HostRuntime) -> Result<(), Fail> {
     let capture = b"HIRMG:1:2+0010::Received'HIBPA:3:3+12+280:100+B+1+1+300+0'HIPINS:9:1+++++::::'

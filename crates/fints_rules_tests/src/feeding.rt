@@ -86,12 +86,12 @@ fn fault_is_kept(rt: HostRuntime) {
     assert!(rt; (again, places, feeder.finish().err()) == (kept, 0, kept));
 }
 
-// Feeds a piece, and tells how many segments are whole by it.
+// Feeds a piece, and returns how many segments it completes.
 fn feed(feeder: &mut Feeder, piece: &[u8]) -> Result<usize, SyntaxFault> {
     Ok(feeder.feed(piece)?.len())
 }
 
-// Feeds a piece, and feeds it again after want of memory.
+// Feeds a piece, and feeds it again where memory ran out.
 fn feed_again(feeder: &mut Feeder, piece: &[u8]) -> Result<usize, SyntaxFault> {
     match feed(feeder, piece) {
         Err(fault) if fault.kind == SyntaxKind::Memory => feed(feeder, piece),
@@ -99,7 +99,7 @@ fn feed_again(feeder: &mut Feeder, piece: &[u8]) -> Result<usize, SyntaxFault> {
     }
 }
 
-// Where a single growth is refused, the piece is fed again.
+// Where one allocation is refused, the piece is fed again.
 #[test]
 fn fed_again(rt: HostRuntime) -> Result<(), Fail> {
     let mut feeder = Feeder::new(rt.alloc());
@@ -111,7 +111,7 @@ fn fed_again(rt: HostRuntime) -> Result<(), Fail> {
     Ok(())
 }
 
-// The 19,998th separator behind the head is the 20,000th of the segment.
+// The 19,998th separator after the head is the 20,000th of the segment.
 #[test]
 fn too_many_separators(rt: HostRuntime) -> Result<(), Fail> {
     let mut feeder = Feeder::new(rt.alloc());

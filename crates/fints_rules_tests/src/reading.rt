@@ -68,7 +68,7 @@ fn each_cut_of_sealed(rt: HostRuntime) -> Result<(), Fail> {
     Ok(())
 }
 
-// Feeds a piece, and feeds it again after want of memory.
+// Feeds a piece, and feeds it again where memory ran out.
 fn feed_again(reader: &mut ParamReader, piece: &[u8]) -> Result<(), ParamFault> {
     match reader.feed(piece) {
         Err(ParamFault::Memory) => reader.feed(piece),
@@ -85,7 +85,7 @@ fn fed_bytes(alloc: Global, capture: &[u8]) -> Result<Params, ParamFault> {
     reader.finish()
 }
 
-// Where a single growth is refused, the piece is fed again.
+// Where one allocation is refused, the piece is fed again.
 #[test]
 fn fed_again(rt: HostRuntime) -> Result<(), Fail> {
     let params = fed_bytes(rt.alloc(), C)?;
@@ -114,7 +114,7 @@ fn unfinished_data(rt: HostRuntime) -> Result<(), Fail> {
     Ok(())
 }
 
-// The 19,998th separator behind the head is the 20,000th of the segment.
+// The 19,998th separator after the head is the 20,000th of the segment.
 #[test]
 fn too_many_separators(rt: HostRuntime) -> Result<(), Fail> {
     let mut reader = ParamReader::new(rt.alloc());
@@ -170,7 +170,7 @@ fn codes_in_pieces(rt: HostRuntime) -> Result<(), Fail> {
     Ok(())
 }
 
-// A code that is none is no matter for who asks for the parameters alone.
+// What is no code is read where only the parameters are asked for.
 #[test]
 fn bad_code_in_pieces(rt: HostRuntime) -> Result<(), Fail> {
     let pieces = [C, b"HIRMS:3:2+0010+:1".as_slice(), b"+003x'".as_slice()];

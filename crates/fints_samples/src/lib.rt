@@ -1,7 +1,7 @@
 //! Inputs of the tests of several crates: two banks, an order table and scripts.
 #![tactic(auto)]
 
-/// A bank that says no more than it must: 93 bytes, of which 42 are its own segment.
+/// A bank that says no more than it must: 93 bytes, 42 of them its own segment.
 pub const C1: &[u8] =
     b"HIBPA:3:3+12+280:10020030+Bank+1+1+300+0'\nHIPINS:9:1+1+1+0+5:38:6:::HKSAL:N:HKKAZ:N:HKCCS:J'\n";
 

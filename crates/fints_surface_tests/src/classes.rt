@@ -64,7 +64,7 @@ fn listed_texts(alloc: Global) -> Result<OneOf, Fail> {
 // The literal A1, as an element is written.
 const A1: &[u8] = b"1234567::280:10020030";
 
-// The account of A1 alone.
+// Only the account of A1.
 fn listed_account(alloc: Global) -> Result<Account, Fail> {
     let items = texts(alloc, &[b"1234567", b"", b"280", b"10020030"])?;
     let mut accounts = Vec::new(alloc);

@@ -30,7 +30,7 @@ entry HKCCS 2
 skipped 0
 ";
 
-// Whether the words have status 0 and this output. Status 4 is want of memory.
+// Whether the words have status 0 and this output. Status 4 says that memory ran out.
 fn is_answered(alloc: Global, words: &[&str], text: &[u8]) -> Result<bool, Fail> {
     let mut files = Same::new(C);
     let mut out = Kept::new(alloc)?;

@@ -67,7 +67,7 @@ signers = ["me"]
 segments = [{kind = "HKCCS", version = 1, elements = ["$acct"]}, {kind = "HKTAN", version = 6, elements = ["4", "HKCCS"]}]
 "#;
 
-/// The steps of the script of row `order-without-its-release`: a signed transfer, and behind it a message that
+/// The steps of the script of row `order-without-its-release`: a signed transfer, and after it a message that
 /// doesn't send its TAN.
 pub const UNRELEASED: &[u8] = br#"[[step]]
 name = "pay"

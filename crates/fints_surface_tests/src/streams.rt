@@ -1,4 +1,4 @@
-//! Files and an output that tell their bytes, so that calls over them are made where their contracts say
+//! Files and an output that show their bytes, so that calls over them are made where their contracts say
 //! most.
 ghost use Rattle.std.specs.Prelude.{◌≡◌, Some};
 

@@ -82,7 +82,7 @@ fn keeps_before_segment(alloc: Global, segment: &OwnedSegment) -> Result<bool, M
     }
 }
 
-// The output grows while it is written to. tools/faults.py runs this test with each growth refused in turn.
+// The output grows while it is written to. tools/faults.py runs this test with each allocation refused in turn.
 #[test]
 fn kept(rt: HostRuntime) -> Result<(), Fail> {
     let alloc = rt.alloc();

@@ -26,7 +26,7 @@ fn values_of_cases(rt: HostRuntime) -> Result<(), Fail> {
     Ok(())
 }
 
-// One answer, of this code alone.
+// One answer, of this code only.
 fn are_single(answers: &[Answer], number: u16) -> bool {
     match answers {
         [answer] => match answer.codes() {
@@ -72,7 +72,7 @@ fn written(rt: HostRuntime) -> Result<(), Fail> {
     Ok(())
 }
 
-// A case with one value of so many bytes, as it is written.
+// A case with one value of this size, as it is written.
 fn long_text(alloc: Global, bytes: usize) -> Result<Vec<u8>, Fail> {
     let value = vec![in alloc; b'0'; bytes]?;
     let case = Case {

@@ -22,7 +22,7 @@ fn accounts(alloc: Global, rows: &[&[&[u8]]]) -> Result<Vec<AccountValue>, Fail>
     Ok(accounts)
 }
 
-/// A class, as a script tells it.
+/// A class, as a script names it.
 #[derive(Clone, Copy)]
 enum Class<'a> {
     Text(Alphabet, u16, u16),
@@ -56,13 +56,13 @@ fn are_ends(alloc: Global, field: &Field, ends: Ends<'_>) -> Result<bool, Fail> 
     Ok(found == ends && field.admits(longest.as_slice()) && field.admits(shortest.as_slice()))
 }
 
-// Whether values of a class have so many items at most, and these ends.
+// Whether values of a class have at most this many items, and these ends.
 fn has_ends(alloc: Global, class: Class<'_>, items: u32, ends: Ends<'_>) -> Result<bool, Fail> {
     let field = field(alloc, class)?;
     Ok(field.most_items() == items && are_ends(alloc, &field, ends)?)
 }
 
-// Whether a class admits the value, for which so many bytes are written, or doesn't.
+// Whether a class admits the value, which is written in this many bytes, or doesn't.
 fn is_written(
     alloc: Global,
     class: Class<'_>,

@@ -71,7 +71,7 @@ fn are_codes(answer: &Option<Answer>, wanted: &[u16]) -> bool {
 }
 
 // The first branch takes each code that begins with 0, the second none, and the default the others;
-// beside what opens a branch stands any code that no pattern before it matches.
+// beside what opens a branch comes any code that no pattern before it matches.
 const CARRIED: [(usize, u16, &[u16]); 5] = [
     (1, 30, &[30]),
     (1, 9010, &[0, 9010]),
