@@ -11,7 +11,7 @@ pub enum CertFault {
     /// The first line that is no line of a certificate there; lines count from 1.
     #[error("line {line}")]
     Bad { line: u32 },
-    /// A growth was refused.
+    /// An allocation was refused.
     #[error("memory")]
     Memory,
 }

@@ -13,7 +13,7 @@ use thiserror::Error;
 #[derive(Clone, Copy, Debug, PartialEq, Eq, Error)]
 #[error("{}", self.text())]
 pub enum ParamFault {
-    /// A growth was refused.
+    /// An allocation was refused.
     Memory,
     /// The capture isn't segments, or the data of an HNVSD aren't. The offset is counted in the
     /// capture, from 0.

@@ -4,7 +4,7 @@ ghost use Rattle.fints_params.specs.Captures.{TellsBank, TellsUser};
 ghost use Rattle.fints_params.specs.Faults.{IsMemoryOr};
 ghost use Rattle.fints_params.specs.Parameters.{fault_after};
 ghost use Rattle.fints_params.specs.Refused.{IsRefusedOf};
-ghost use Rattle.fints_params.specs.Taken.{tells_user};
+ghost use Rattle.fints_params.specs.Taken.{says_user};
 
 use crate::capture::read_capture;
 use crate::fault::ParamFault;
@@ -23,8 +23,8 @@ pub struct Told {
     pub user: Option<UserParams>,
 }
 
-fn tells_user(rows: &Gathered) -> bool
-    ensures { result ≡ tells_user rows.now }
+fn says_user(rows: &Gathered) -> bool
+    ensures { result ≡ says_user rows.now }
 {
     !rows.usages.is_empty() || !rows.accounts.is_empty()
 }
@@ -36,7 +36,7 @@ pub fn told_in(alloc: Global, capture: &[u8]) -> Result<Told, ParamFault>
     ensures refused { IfErr result (λ f. IsMemoryOr (IsRefusedOf fault_after capture.now) f) }
 {
     let rows = read_capture(alloc, capture, no_rows(alloc))?;
-    let has_user = tells_user(&rows);
+    let has_user = says_user(&rows);
     let (bank, user) = parts_of(rows);
     Ok(Told {
         bank: bank.ok(),

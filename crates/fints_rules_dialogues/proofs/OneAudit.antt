@@ -25,7 +25,7 @@ use Rattle.fints_rules_dialogues.specs.declared.reading.Answer.{Answer}
 use Rattle.fints_rules_dialogues.specs.declared.reading.Exchange.{Exchange}
 use Rattle.fints_rules_dialogues.specs.Laws.{NoAuditAtFault, answer_values, exchange_values}
 use Rattle.fints_rules_dialogues.specs.Nearest.{nearest}
-use Rattle.fints_rules_dialogues.specs.OwnParams.{AnswerTells, AreHeard, HeardRows, IsCaptureFault, IsRefusedAnswer, IsTellingFault, LacksBank, bank_for, granted_after, granted_each, tells_bank}
+use Rattle.fints_rules_dialogues.specs.OwnParams.{AnswerTells, AreHeard, HeardRows, IsCaptureFault, IsRefusedAnswer, IsTellingFault, LacksBank, bank_for, granted_after, granted_each, says_bank}
 use Rattle.fints_rules_dialogues.specs.Parties.{names_party, nobody, parties_after, party_at, party_named}
 use Rattle.fints_rules_dialogues.proofs.NearestLemmas.{nearest_of_map}
 use Rattle.fints_rules_dialogues.proofs.OneDialogue.{one_dialogue}
@@ -242,9 +242,9 @@ half_bank (Some x) = refl
 bank_half : (before : List HeardRows) (h : HeardRows) (after : List HeardRows)
     → bank_for before h after ≡ bank_for (map half before) (half h) (map half after)
 bank_half before h after =
-    half_bank (nearest (tells_bank h.party) before (h ∷ after))
+    half_bank (nearest (says_bank h.party) before (h ∷ after))
     ∙ ap (λ (o : Option HeardRows). option_and_then (λ x. x.bank) o)
-    (sym (nearest_of_map (tells_bank h.party) half before (h ∷ after)))
+    (sym (nearest_of_map (says_bank h.party) half before (h ∷ after)))
 
 -- what the bank of each says
 abbrev banks_after : List HeardRows → List HeardRows → List (Option BankRows)

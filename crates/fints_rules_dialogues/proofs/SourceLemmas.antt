@@ -14,7 +14,7 @@ use Rattle.fints_params.specs.Parameters.{BankRows, UserRows, joined, unknown_us
 use Rattle.fints_rules_permissions.specs.Permits.{BankGranted, Granted, granted}
 use Rattle.fints_rules_permissions.specs.declared.orders.OrderRow.{OrderRow}
 use Rattle.fints_rules_dialogues.specs.Nearest.{nearest}
-use Rattle.fints_rules_dialogues.specs.OwnParams.{AreHeard, HeardRows, LacksBank, bank_for, granted_after, granted_each, granted_for, tells_bank, tells_user, user_for}
+use Rattle.fints_rules_dialogues.specs.OwnParams.{AreHeard, HeardRows, LacksBank, bank_for, granted_after, granted_each, granted_for, says_bank, says_user, user_for}
 use Rattle.fints_rules_dialogues.specs.Sources.{HoldsNearest, IsAtPlace, IsGranting, IsKeyOf, bank_of, got, heard_in, key_cmp, same, tells, user_of}
 use Rattle.fints_rules_dialogues.specs.declared.parties.Party.{Party}
 use Rattle.fints_rules_dialogues.specs.declared.sources.Granting.{Granting}
@@ -97,7 +97,7 @@ pub bank_found : (orders : List OrderRow) (before : List Granting) (g : Granting
     → option_and_then bank_of (nearest (λ x. tells Bank party x.heard.now) before (g ∷ after))
     ≡ option_map (grant orders) (bank_for (heard_in before) g.heard.now (heard_in after))
 bank_found orders before g after party is h k =
-    let t : HeardRows → Bool = tells_bank g.heard.now.party in
+    let t : HeardRows → Bool = says_bank g.heard.now.party in
     let found = nearest (λ (x : Granting). t x.heard.now) before (g ∷ after) in
     ap (λ p. option_and_then bank_of (nearest (λ (x : Granting). tells Bank p x.heard.now) before (g ∷ after))) is
     ∙ bank_held orders found (nearest_holds (IsGranting orders) (λ x. t x.heard.now) before (g ∷ after) h k)
@@ -112,7 +112,7 @@ pub user_found : (orders : List OrderRow) (before : List Granting) (g : Granting
     unknown
     ≡ user_for (heard_in before) g.heard.now (heard_in after)
 user_found orders before g after party unknown is none h k =
-    let t : HeardRows → Bool = tells_user g.heard.now.party in
+    let t : HeardRows → Bool = says_user g.heard.now.party in
     let found = nearest (λ (x : Granting). t x.heard.now) before (g ∷ after) in
     ap (λ (u : UserRows).
     unwrap_or (option_and_then user_of (nearest (λ (x : Granting). tells User party x.heard.now) before (g ∷ after)))

@@ -38,21 +38,21 @@ pub record AreHeard (exchanges : List Exchange) (heard : List HeardRows) : Type 
 -- ---- by which parameters a message is judged
 
 -- the other exchange is of the same bank, and its answer has the bank's parameters
-abbrev pub tells_bank : Party → HeardRows → Bool
-tells_bank party other = same_bank other.party party && is_some other.bank
+abbrev pub says_bank : Party → HeardRows → Bool
+says_bank party other = same_bank other.party party && is_some other.bank
 
 -- it is of the same bank and customer, and its answer has the user's parameters
-abbrev pub tells_user : Party → HeardRows → Bool
-tells_user party other = same_customer other.party party && is_some other.user
+abbrev pub says_user : Party → HeardRows → Bool
+says_user party other = same_customer other.party party && is_some other.user
 
 -- The bank's parameters are those sent last before the message, or where none were, those that are sent first
 -- after it. The user's are found in the same way; where no answer has them, nothing is known of the user.
 abbrev pub bank_for : List HeardRows → HeardRows → List HeardRows → Option BankRows
-bank_for before h after = option_and_then (λ x. x.bank) (nearest (tells_bank h.party) before (h ∷ after))
+bank_for before h after = option_and_then (λ x. x.bank) (nearest (says_bank h.party) before (h ∷ after))
 
 abbrev pub user_for : List HeardRows → HeardRows → List HeardRows → UserRows
 user_for before h after =
-    unwrap_or (option_and_then (λ x. x.user) (nearest (tells_user h.party) before (h ∷ after))) unknown_user
+    unwrap_or (option_and_then (λ x. x.user) (nearest (says_user h.party) before (h ∷ after))) unknown_user
 
 -- by what a message is judged with an order table, where its bank sends some parameters
 abbrev pub granted_for : List OrderRow → List HeardRows → HeardRows → List HeardRows → Option Granted

@@ -9,10 +9,10 @@ ghost use Rattle.fints_rules_dialogues.specs.declared.fault.DialogueFault.TheVar
 use crate::fault::DialogueFault;
 use crate::messages::RecordedMessage;
 use crate::own_params::{Heard, OwnParams};
-use crate::reading::{Exchange, message_count, next_exchange};
+use crate::reading::{Exchange, message_count, read_exchange};
 use crate::recording::Recording;
 use crate::sources::{Basis, OwnPermissions, ToldIn};
-use crate::turn::{TurnObserver, show_refused_answer};
+use crate::turn::{TurnObserver, show_refusal, show_refused_answer};
 use fints_params::Code;
 use fints_rules::{Broken, OrderTable, Permissions, judge_message, judge_message_after};
 use fints_rules_messages::Unobserved;
@@ -145,7 +145,9 @@ pub fn audit<'a, O: Observer>(
     while at < messages.len() {
         let (_, rest) = messages.split_at(at);
         let earlier = before.as_ref();
-        let exchange = next_exchange(alloc, audited.len(), earlier, rest, observer)?;
+        let read = read_exchange(alloc, earlier, rest, observer);
+        show_refusal(audited.len(), earlier, rest, &read, observer);
+        let exchange = read?;
         let one = audit_next(alloc, permissions, HANDED_IN, earlier, &exchange, observer)?;
         audited.push(one)?;
         at += message_count(&exchange);

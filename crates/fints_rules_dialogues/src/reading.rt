@@ -8,7 +8,6 @@ ghost use Rattle.fints_rules_dialogues.specs.Dialogues.{begins_after, is_answer,
 
 use crate::fault::DialogueFault;
 use crate::messages::RecordedMessage;
-use crate::turn::{TurnObserver, show_refusal};
 use fints_params::{Code, ParamFault, feedback_codes};
 use fints_rules_messages::{JudgeFault, Message, UnreadObserver, read_message_with};
 use fints_syntax::SegmentView;
@@ -177,9 +176,9 @@ fn next_answer<'a>(
     }
 }
 
-// After that exchange, the exchange at the front of the messages. Where the client's is no message, the
-// observer sees why.
-fn read_exchange<'a, O: UnreadObserver>(
+/// After that exchange, the exchange at the front of the messages. Where the client's is no message, the
+/// observer sees why; `show_refusal` shows it the rest.
+pub fn read_exchange<'a, O: UnreadObserver>(
     alloc: Global,
     before: Option<&Exchange<'_>>,
     messages: &[RecordedMessage<'a>],
@@ -202,30 +201,6 @@ fn read_exchange<'a, O: UnreadObserver>(
         answer,
         begins,
     })
-}
-
-/// The exchange at the front of the messages, after this many exchanges and after that one as the last of them.
-/// Where it is refused, the observer sees it.
-pub fn next_exchange<'a, O: TurnObserver>(
-    alloc: Global,
-    exchanges: usize,
-    last: Option<&Exchange<'_>>,
-    messages: &[RecordedMessage<'a>],
-    observer: &mut O,
-) -> Result<Exchange<'a>, DialogueFault>
-    requires some { 0 < length messages.now }
-    requires below { EndsBelow messages.now }
-    ensures exchange { IfOk result (λ e. BeginsWithOne (option_copied last.entry) messages.now e) }
-    ensures refused { IfErr result
-        (λ f. IsMemoryOrRefusal (IsExchangeFault (option_copied last.entry) messages.now) f) }
-{
-    match read_exchange(alloc, last, messages, observer) {
-        Ok(exchange) => Ok(exchange),
-        Err(fault) => {
-            show_refusal(exchanges, last, messages, &fault, observer);
-            Err(fault)
-        }
-    }
 }
 
 /// How many messages an exchange is.

@@ -5,8 +5,8 @@ ghost use Rattle.fints_rules_dialogues.specs.Dialogues.{IsExchange, IsTurnFault,
 
 use crate::fault::DialogueFault;
 use crate::messages::{RecordedMessage, sents_of};
-use crate::reading::{Exchange, message_count, next_exchange};
-use crate::turn::TurnObserver;
+use crate::reading::{Exchange, message_count, read_exchange};
+use crate::turn::{TurnObserver, show_refusal};
 use fints_rules_logs::Log;
 use fints_rules_messages::Unobserved;
 use fints_syntax::Memory;
@@ -68,8 +68,10 @@ impl<'a> Recording<'a> {
         let mut at = 0;
         while at < messages.len() {
             let (_, rest) = messages.split_at(at);
-            let count = exchanges.len();
-            let exchange = next_exchange(alloc, count, exchanges.last(), rest, observer)?;
+            let last = exchanges.last();
+            let read = read_exchange(alloc, last, rest, observer);
+            show_refusal(exchanges.len(), last, rest, &read, observer);
+            let exchange = read?;
             at += message_count(&exchange);
             exchanges.push(exchange)?;
         }

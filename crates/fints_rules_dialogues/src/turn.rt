@@ -36,15 +36,18 @@ fn due_after(exchanges: usize, last: Option<&Exchange<'_>>) -> Turn {
     }
 }
 
-/// Shows what is refused of the exchange at the front of the messages: the client's message, or the answer to it.
-/// It comes after this many exchanges and after that one as the last of them.
+/// Shows what was refused, if anything, of the exchange that was read at the front of the messages: the client's
+/// message, or the answer to it. It comes after this many exchanges and after that one as the last of them.
 pub fn show_refusal<O: TurnObserver>(
     exchanges: usize,
     last: Option<&Exchange<'_>>,
     messages: &[RecordedMessage<'_>],
-    fault: &DialogueFault,
+    read: &Result<Exchange<'_>, DialogueFault>,
     observer: &mut O,
 ) {
+    let Err(fault) = read else {
+        return;
+    };
     let (due, sent) = match fault {
         DialogueFault::Answer { .. } => {
             let due = Turn {

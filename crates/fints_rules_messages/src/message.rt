@@ -128,7 +128,7 @@ impl<'a> Message<'a> {
 pub enum JudgeFault {
     Memory,
     /// The bytes are no message. The offset, from 0, is that of the first outer segment that isn't
-    /// read or can't stand at its place, or the end of the last one that can.
+    /// read or can't be at its place, or the end of the last one that can.
     NotAMessage { offset: usize },
     /// Of two messages, the bytes of the one before are none; the offset is that of `NotAMessage`.
     NotAMessageBefore { offset: usize },

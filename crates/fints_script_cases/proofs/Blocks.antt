@@ -9,7 +9,7 @@ use Rattle.std.proofs.Math.Nat.{div-div-eq-div-mul, div-eq_of_lt-le, div-mul-le_
 use Rattle.std.specs.List.{All, list_all, list_any, zip}
 use Rattle.std.specs.Option.{ForSome, MatchOption}
 use Rattle.fints_script_cases.specs.Answers.{IsOpener}
-use Rattle.fints_script_cases.specs.CodeBlocks.{HasFree, IsBarren, MatchesByBlocks, MissesBlock, size_at, tells}
+use Rattle.fints_script_cases.specs.CodeBlocks.{HasFree, IsBarren, MatchesByBlocks, MissesBlock, size_at, has_digit}
 use Rattle.fints_script_cases.specs.Patterns.{code_text, fits, matches}
 use Rattle.fints_script_cases.specs.declared.answers.Branch.{Branch}
 
@@ -177,7 +177,7 @@ OpensBelow branches b n = (low : ℕ) × (low < n) × IsOpener branches b low
 
 -- no earlier pattern singles out this digit there
 abbrev Untold : List Branch → ℕ → ℕ → ℕ → ℕ → Type 0
-Untold branches b n place digit = All (λ (p : Branch). tells p.on (code_text n) place digit ≡ false) (take (b - 1) branches)
+Untold branches b n place digit = All (λ (p : Branch). has_digit p.on (code_text n) place digit ≡ false) (take (b - 1) branches)
 
 lower_first : (branches : List Branch) (b n e o : ℕ) → HasFree branches b 0 → e + 1 ≡ n / 1000
     → Untold branches b n 0 (48 + e) → n ≤ o → o < 10000 → IsOpener branches b o → OpensBelow branches b n
@@ -273,7 +273,7 @@ digit_byte n (suc (suc (suc place))) lt = absurd (omega (arith, lt))
 -- the same, as it is tested
 pub spent_told : (branches : List Branch) (b n place : ℕ) (digits : List ℕ) (told : Bool) → place < 3
     → n < 10000 → digits ≡ code_text n → get_or digits place 0 ≢ 48 → HasFree branches b place
-    → told ≡ list_any (λ (p : Branch). tells p.on digits place (get_or digits place 0 - 1))
+    → told ≡ list_any (λ (p : Branch). has_digit p.on digits place (get_or digits place 0 - 1))
     (take (b - 1) branches)
     → told ≡ false → IsBarren branches b n (10 * size_at place)
 spent_told branches b n place digits told lt small is other free by none =
@@ -283,12 +283,12 @@ spent_told branches b n place digits told lt small is other free by none =
     let byte' : 48 ≤ get_or digits place 0 = subst (λ (x : ℕ). 48 ≤ x) (sym same) byte in
     let from : 48 ≤ below = omega (arith, other) in
     let next : below + 1 ≡ get_or digits place 0 = omega arith in
-    let untold_all : (k : ℕ) (d : Branch) → k < length (take (b - 1) branches) → tells (get_or (take (b - 1) branches) k d).on digits place below ≡ false =
+    let untold_all : (k : ℕ) (d : Branch) → k < length (take (b - 1) branches) → has_digit (get_or (take (b - 1) branches) k d).on digits place below ≡ false =
     λ k d within.
     false_from_ne_true _
     (λ e.
     both_ways _ (sym by ∙ none)
-    (list_any-from_Any (λ (p : Branch). tells p.on digits place below) (take (b - 1) branches) (
+    (list_any-from_Any (λ (p : Branch). has_digit p.on digits place below) (take (b - 1) branches) (
       k,
       get_or (take (b - 1) branches) k d,
       within,
@@ -297,7 +297,7 @@ spent_told branches b n place digits told lt small is other free by none =
     ))) in
     spent branches b n place below lt small free from (next ∙ same)
     (subst
-    (λ (ds : List ℕ). All (λ (p : Branch). tells p.on ds place below ≡ false) (take (b - 1) branches))
+    (λ (ds : List ℕ). All (λ (p : Branch). has_digit p.on ds place below ≡ false) (take (b - 1) branches))
     is untold_all)
 
 -- ---- the branch's own pattern

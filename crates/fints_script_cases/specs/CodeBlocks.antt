@@ -14,8 +14,8 @@ size_at (suc (suc zero)) = 10
 size_at (suc (suc (suc place))) = 1
 
 -- the pattern fits the digits before a place, and has this digit there
-abbrev pub tells : List ℕ → List ℕ → ℕ → ℕ → Bool
-tells pattern digits place digit =
+abbrev pub has_digit : List ℕ → List ℕ → ℕ → ℕ → Bool
+has_digit pattern digits place digit =
     list_all (λ (p : ℕ × ℕ). fits p.0 p.1) (zip (take place pattern) (take place digits))
     && (get_or pattern place 0 == digit)
 

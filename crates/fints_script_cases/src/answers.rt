@@ -2,7 +2,7 @@
 ghost use Rattle.std.specs.Prelude.{◌≡◌, ◌↔◌, ℕ, ◌+◌, ◌-◌, ◌*◌, ◌<◌, ◌≤◌, length, take, slice_get, All, IsTrue, IsFalse, IsSome, IfSome, MatchOption};
 ghost use Rattle.std.specs.List.{find, list_any};
 ghost use Rattle.std.specs.Option.{ForSome};
-ghost use Rattle.fints_script_cases.specs.CodeBlocks.{HasFree, IsBarren, size_at, tells};
+ghost use Rattle.fints_script_cases.specs.CodeBlocks.{HasFree, IsBarren, size_at, has_digit};
 ghost use Rattle.fints_script_cases.specs.Patterns.{matches};
 ghost use Rattle.fints_script_cases.specs.Answers.{matches_some, leads, target_of, IsOpen, IsOpener, IsLeastOpener};
 
@@ -66,11 +66,11 @@ fn is_free(at: BranchAt<'_>, place: EarlierPlace) -> bool
 
 /// Whether one of these has the digit at a place, and fits the digits before it.
 fn is_told(earlier: &[Branch], digits: [u8; 4], place: EarlierPlace, digit: u8) -> bool
-    ensures { result ≡ list_any (λ branch. tells branch.on digits place.index digit) earlier.now }
+    ensures { result ≡ list_any (λ branch. has_digit branch.on digits place.index digit) earlier.now }
 {
     earlier
         .iter()
-        .any(|branch| branch.on.tells(digits, place, digit))
+        .any(|branch| branch.on.has_digit(digits, place, digit))
 }
 
 /// Whether no code of those with the same digits before a place opens the branch, if none below this

@@ -12,7 +12,7 @@ use thiserror::Error;
 pub enum CaseFault {
     /// The first line that is no line of a case there; lines count from 1.
     Bad { line: u32 },
-    /// A growth was refused.
+    /// An allocation was refused.
     Memory,
 }
 

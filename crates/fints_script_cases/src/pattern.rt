@@ -1,7 +1,7 @@
 //! Patterns of feedback codes.
 ghost use Rattle.std.specs.Prelude.{◌≡◌, ◌<◌, ◌≤◌, ◌==◌, IsTrue, MatchOption, get_or};
 ghost use Rattle.std.specs.List.{list_all, list_any, zip};
-ghost use Rattle.fints_script_cases.specs.CodeBlocks.{MatchesByBlocks, MissesBlock, size_at, tells};
+ghost use Rattle.fints_script_cases.specs.CodeBlocks.{MatchesByBlocks, MissesBlock, size_at, has_digit};
 ghost use Rattle.fints_script_cases.specs.Patterns.{is_pattern, is_place, pattern_in, fits, code_text, matches};
 
 use fints_params::Code;
@@ -135,8 +135,8 @@ impl Pattern {
     }
 
     /// Whether it fits the digits before a place, and has this digit there.
-    pub(crate) fn tells(&self, digits: [u8; 4], place: EarlierPlace, digit: u8) -> bool
-        ensures { result ≡ tells self.now digits place.index digit }
+    pub(crate) fn has_digit(&self, digits: [u8; 4], place: EarlierPlace, digit: u8) -> bool
+        ensures { result ≡ has_digit self.now digits place.index digit }
     {
         let place = place.index;
         all_fit(&self.places[..place], &digits[..place]) && self.places[place] == digit

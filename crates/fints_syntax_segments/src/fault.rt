@@ -2,7 +2,7 @@
 use std::alloc::{AllocError, AllocFailed};
 use thiserror::Error;
 
-/// Want of memory: a growth was refused. All crates share this one error.
+/// Out of memory: an allocation was refused. All crates share this one error.
 #[derive(Clone, Copy, Debug, PartialEq, Eq, Error)]
 #[error("memory")]
 pub struct Memory;
