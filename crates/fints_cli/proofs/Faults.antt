@@ -14,7 +14,7 @@ use Rattle.fints_cli_commands.specs.Loading.{files_of, FollowsReading}
 use Rattle.fints_cli_commands.specs.FailureText.{failure_text}
 use Rattle.fints_cli_commands.specs.declared.failing.Failure.{Failure}
 use Rattle.fints_cli_commands.specs.declared.failing.Failure.TheVariants.{Input, Unread}
-use Rattle.fints_cli.specs.Responses.{FailsWith, IsUntold, SaysFirst, SaysText, Tells, fault_line, memory_line, told_line}
+use Rattle.fints_cli.specs.Responses.{FailsWith, IsSilent, SaysFirst, SaysText, GetsOrFails, fault_line, memory_line, line_of}
 
 module _ (old new : Option (List ℕ)) (lost lost_after : ℕ) where
   -- nothing more is said under one premise where nothing is under another that follows from it
@@ -24,16 +24,16 @@ module _ (old new : Option (List ℕ)) (lost lost_after : ℕ) where
 
   -- the line of these words was printed, and they are those of the failure
   pub told_first : (A : Type 0) (f : Failure) (why more : List ℕ) → why ≡ failure_text f → (A → more ≡ [])
-      → Tells old new lost lost_after (told_line (codes "error: ") why ++ more)
+      → GetsOrFails old new lost lost_after (line_of (codes "error: ") why ++ more)
       → SaysFirst A (fault_line f) old new lost lost_after
   told_first A f why more is none told = record {
     more = more;
     nothing_more = none;
-    said = subst (λ w. SaysText (told_line (codes "error: ") w ++ more) old new lost lost_after) is told;
+    said = subst (λ w. SaysText (line_of (codes "error: ") w ++ more) old new lost lost_after) is told;
   }
 
   -- only memory that ran out has status 4
-  pub memory_first : (A : Type 0) (f : Failure) → failure_status f ≡ 4 → Tells old new lost lost_after memory_line
+  pub memory_first : (A : Type 0) (f : Failure) → failure_status f ≡ 4 → GetsOrFails old new lost lost_after memory_line
       → SaysFirst A (fault_line f) old new lost lost_after
   memory_first A (Input Memory) four told = record { more = []; nothing_more = λ _. refl; said = told }
   memory_first A (Input (NoMessage number)) four told = absurd (omega (arith, four))
@@ -43,7 +43,7 @@ module _ (old new : Option (List ℕ)) (lost lost_after : ℕ) where
   memory_first A (Unread input) four told = absurd (omega (arith, four))
 
 -- what is said after nothing was
-pub says_next : (old mid new : Option (List ℕ)) (a b c : ℕ) (text : List ℕ) → IsUntold old mid a b
+pub says_next : (old mid new : Option (List ℕ)) (a b c : ℕ) (text : List ℕ) → IsSilent old mid a b
     → SaysText text mid new b c → SaysText text old new a c
 says_next old mid new a b c [] none said = (gets-more old mid new [] [] none.0 said.0, said.1 ∙ none.1)
 says_next old mid new a b c (x ∷ text) none (inl told) =
@@ -62,7 +62,7 @@ module _ (old new : Option (List ℕ)) (lost lost_after : ℕ) where
   says_after (x ∷ xs) b empty is at said = let zero : (length (x ∷ xs) == 0) ≡ true = sym is ∙ at in absurd (not_empty x xs zero)
 
   pub says_with : (a b : List ℕ) (empty : Bool) → empty ≡ (length a == 0) → empty ≡ false
-      → Tells old new lost lost_after (a ++ b) → SaysText (a ++ b) old new lost lost_after
+      → GetsOrFails old new lost lost_after (a ++ b) → SaysText (a ++ b) old new lost lost_after
   says_with [] b empty is at told = absurd (false≢true (sym at ∙ is))
   says_with (x ∷ xs) b empty is at told = told
 

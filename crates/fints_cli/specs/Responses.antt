@@ -79,13 +79,13 @@ pub record IsResponse (asked : Asked) (holds : List ℕ → Option (List ℕ)) (
 -- ---- what the errors get
 
 -- a stream got the text, or a prefix of it, after which a write failed
-abbrev pub Tells : (old new : Option (List ℕ)) (lost lost_after : ℕ) → List ℕ → Type 0
-Tells old new lost lost_after text =
+abbrev pub GetsOrFails : (old new : Option (List ℕ)) (lost lost_after : ℕ) → List ℕ → Type 0
+GetsOrFails old new lost lost_after text =
     (Gets old new text × (lost_after ≡ lost)) ⊎ (GetsPrefix old new text × (lost_after ≡ one_more lost))
 
 -- a stream got nothing, and no write to it failed
-abbrev pub IsUntold : (old new : Option (List ℕ)) (lost lost_after : ℕ) → Type 0
-IsUntold old new lost lost_after = GetsNothing old new × (lost_after ≡ lost)
+abbrev pub IsSilent : (old new : Option (List ℕ)) (lost lost_after : ℕ) → Type 0
+IsSilent old new lost lost_after = GetsNothing old new × (lost_after ≡ lost)
 
 abbrev pub memory_line : List ℕ
 memory_line = codes "error: memory" ++ 10 ∷ []
@@ -100,8 +100,8 @@ IsBeside _ holds note = note ≡ []
 
 -- a stream got the text, or a prefix of it, after which a write failed; where the text is empty, nothing was written
 abbrev pub SaysText : List ℕ → (old new : Option (List ℕ)) (lost lost_after : ℕ) → Type 0
-SaysText [] old new lost lost_after = IsUntold old new lost lost_after
-SaysText (b ∷ text) old new lost lost_after = Tells old new lost lost_after (b ∷ text)
+SaysText [] old new lost lost_after = IsSilent old new lost lost_after
+SaysText (b ∷ text) old new lost lost_after = GetsOrFails old new lost lost_after (b ∷ text)
 
 -- no hint is asked for
 abbrev pub AsksNoHint : Asked → Type 0
@@ -111,15 +111,15 @@ AsksNoHint NoMemory = Unit {0}
 AsksNoHint (Run request) = request.hints ≡ false
 
 -- the usage of bad words is printed
-abbrev pub TellsUsage : Asked → (old new : Option (List ℕ)) (lost lost_after : ℕ) → Type 0
-TellsUsage (Help help) old new lost lost_after = Unit {0}
-TellsUsage (Usage fault) old new lost lost_after = Tells old new lost lost_after (string_bytes fault)
-TellsUsage NoMemory old new lost lost_after = Unit {0}
-TellsUsage (Run request) old new lost lost_after = Unit {0}
+abbrev pub SaysUsage : Asked → (old new : Option (List ℕ)) (lost lost_after : ℕ) → Type 0
+SaysUsage (Help help) old new lost lost_after = Unit {0}
+SaysUsage (Usage fault) old new lost lost_after = GetsOrFails old new lost lost_after (string_bytes fault)
+SaysUsage NoMemory old new lost lost_after = Unit {0}
+SaysUsage (Run request) old new lost lost_after = Unit {0}
 
 -- a line: its front, a text, and a line feed
-abbrev pub told_line : List ℕ → List ℕ → List ℕ
-told_line front text = front ++ (text ++ 10 ∷ [])
+abbrev pub line_of : List ℕ → List ℕ → List ℕ
+line_of front text = front ++ (text ++ 10 ∷ [])
 
 -- This text is said, and then hints, reasons or notes; or a prefix of that, after which a write failed. There is nothing more
 -- under this premise.
@@ -131,7 +131,7 @@ pub record SaysFirst (no_more : Type 0) (text : List ℕ) (old new : Option (Lis
 
 -- the line of a fault
 abbrev pub fault_line : Failure → List ℕ
-fault_line f = told_line (codes "error: ") (failure_text f)
+fault_line f = line_of (codes "error: ") (failure_text f)
 
 -- the request has no answer for a failure of this status, and the line of this failure is said
 abbrev pub SaysFailure : Asked → (List ℕ → Option (List ℕ)) → ReadCounts → ReadCounts → ℕ
@@ -143,7 +143,7 @@ SaysFailure asked holds before after status old new lost lost_after =
 -- the output failed, and this is said
 abbrev pub SaysUnwritten : ℕ → (old new : Option (List ℕ)) (lost lost_after : ℕ) → Type 0
 SaysUnwritten status old new lost lost_after =
-    (status ≡ 5) × Tells old new lost lost_after write_line
+    (status ≡ 5) × GetsOrFails old new lost lost_after write_line
 
 -- the note beside the answer is said, and then reasons and notes
 abbrev pub SaysBeside : Asked → (List ℕ → Option (List ℕ)) → (old new : Option (List ℕ))
@@ -158,10 +158,10 @@ pub record SaysWhy (asked : Asked) (holds : List ℕ → Option (List ℕ)) (bef
     (status : ℕ) (old new : Option (List ℕ)) (lost lost_after : ℕ)
     : Type 0 where
   pub beside : status ≤ 1 → SaysBeside asked holds old new lost lost_after
-  pub usage : TellsUsage asked old new lost lost_after
+  pub usage : SaysUsage asked old new lost lost_after
   pub line : 2 ≤ status
       → IsUsage asked
       ⊎ (RanOut asked
       ⊎ (SaysUnwritten status old new lost lost_after
       ⊎ SaysFailure asked holds before after status old new lost lost_after))
-  pub memory : status ≡ 4 → Tells old new lost lost_after memory_line
+  pub memory : status ≡ 4 → GetsOrFails old new lost lost_after memory_line

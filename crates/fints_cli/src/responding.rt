@@ -6,7 +6,7 @@ ghost use Rattle.fints_cli_words.specs.Requests.{built_in_request};
 ghost use Rattle.fints_cli_words.specs.declared.requests.Asked.{Asked};
 ghost use Rattle.fints_cli_words.specs.declared.requests.Asked.TheVariants as asked;
 ghost use Rattle.fints_cli_commands.specs.Commands.{failure_status};
-ghost use Rattle.fints_cli.specs.Responses.{IsAnswered, IsCutOff, IsResponse, RanOut, IsUntold, SaysText, IsUsage, FailsWith, FilesAreWithin, SaysFirst, SaysWhy, Tells, told_line, fault_line, memory_line, write_line};
+ghost use Rattle.fints_cli.specs.Responses.{IsAnswered, IsCutOff, IsResponse, RanOut, IsSilent, SaysText, IsUsage, FailsWith, FilesAreWithin, SaysFirst, SaysWhy, GetsOrFails, line_of, fault_line, memory_line, write_line};
 
 use crate::emitting::emit;
 use fints_cli_commands::{Answered, Refusal, perform};
@@ -15,27 +15,27 @@ use fints_cli_words::{Asked, read_words};
 use std::alloc::Global;
 
 // Writes a text to the errors; a fault there changes nothing.
-fn tell<E: Out>(text: &[u8], err: &mut E)
-    ensures { Tells (E.told err.old) (E.told err.new) (E.failed_calls err.old)
+fn write_text<E: Out>(text: &[u8], err: &mut E)
+    ensures { GetsOrFails (E.written err.old) (E.written err.new) (E.failed_calls err.old)
         (E.failed_calls err.new) text.now }
 {
     let _ = emit(text, err);
 }
 
-fn tell_memory<E: Out>(err: &mut E) -> u8
+fn write_memory<E: Out>(err: &mut E) -> u8
     ensures status { result ≡ 4 }
-    ensures line { Tells (E.told err.old) (E.told err.new) (E.failed_calls err.old)
+    ensures line { GetsOrFails (E.written err.old) (E.written err.new) (E.failed_calls err.old)
         (E.failed_calls err.new) memory_line }
 {
-    tell(b"error: memory\n", err);
+    write_text(b"error: memory\n", err);
     4
 }
 
 // Writes a line: its front, a text, and a line feed.
 fn emit_line<E: Out>(front: &[u8], text: &[u8], err: &mut E) -> Result<(), WriteFault>
-    ensures written { OnOk result (Gets (E.told err.old) (E.told err.new) (told_line front.now text.now)) }
+    ensures written { OnOk result (Gets (E.written err.old) (E.written err.new) (line_of front.now text.now)) }
     ensures fine { OnOk result (E.failed_calls err.new ≡ E.failed_calls err.old) }
-    ensures cut { OnErr result (GetsPrefix (E.told err.old) (E.told err.new) (told_line front.now text.now)) }
+    ensures cut { OnErr result (GetsPrefix (E.written err.old) (E.written err.new) (line_of front.now text.now)) }
     ensures failed { OnErr result (E.failed_calls err.new ≡ one_more (E.failed_calls err.old)) }
 {
     emit(front, err)?;
@@ -46,9 +46,9 @@ fn emit_line<E: Out>(front: &[u8], text: &[u8], err: &mut E) -> Result<(), Write
 // Writes the line of a fault, which takes no memory, and what to look at where there is a hint.
 fn emit_refusal<E: Out>(refusal: &Refusal, err: &mut E) -> Result<(), WriteFault>
     ensures told { OnOk result (SaysFirst (refusal.now.hint ≡ None) (fault_line refusal.now.failure)
-        (E.told err.old) (E.told err.new) (E.failed_calls err.old) (E.failed_calls err.new)) }
+        (E.written err.old) (E.written err.new) (E.failed_calls err.old) (E.failed_calls err.new)) }
     ensures cut { OnErr result (SaysFirst (refusal.now.hint ≡ None) (fault_line refusal.now.failure)
-        (E.told err.old) (E.told err.new) (E.failed_calls err.old) (E.failed_calls err.new)) }
+        (E.written err.old) (E.written err.new) (E.failed_calls err.old) (E.failed_calls err.new)) }
 {
     emit_line(b"error: ", refusal.failure.text().as_bytes(), err)?;
     match &refusal.hint {
@@ -58,17 +58,17 @@ fn emit_refusal<E: Out>(refusal: &Refusal, err: &mut E) -> Result<(), WriteFault
 }
 
 // Says on the errors why there is no answer; where memory ran out there is no hint.
-fn tell_refusal<E: Out>(refusal: &Refusal, err: &mut E) -> u8
+fn write_refusal<E: Out>(refusal: &Refusal, err: &mut E) -> u8
     ensures status { result ≡ failure_status refusal.now.failure }
     ensures memory { result ≡ 4
-        → Tells (E.told err.old) (E.told err.new) (E.failed_calls err.old)
+        → GetsOrFails (E.written err.old) (E.written err.new) (E.failed_calls err.old)
         (E.failed_calls err.new) memory_line }
     ensures line { SaysFirst (refusal.now.hint ≡ None) (fault_line refusal.now.failure)
-        (E.told err.old) (E.told err.new) (E.failed_calls err.old) (E.failed_calls err.new) }
+        (E.written err.old) (E.written err.new) (E.failed_calls err.old) (E.failed_calls err.new) }
 {
     let status = refusal.failure.status();
     if status == 4 {
-        return tell_memory(err);
+        return write_memory(err);
     }
     let _ = emit_refusal(refusal, err);
     status
@@ -78,18 +78,18 @@ fn tell_refusal<E: Out>(refusal: &Refusal, err: &mut E) -> u8
 fn deliver<O: Out, E: Out>(text: &[u8], status: u8, out: &mut O, err: &mut E) -> u8
     requires { status ≤ 1 }
     ensures statuses { (result ≡ status) ⊎ (result ≡ 5) }
-    ensures written { result ≡ status → Gets (O.told out.old) (O.told out.new) text.now }
+    ensures written { result ≡ status → Gets (O.written out.old) (O.written out.new) text.now }
     ensures fine { result ≡ status → O.failed_calls out.new ≡ O.failed_calls out.old }
-    ensures cut { result ≡ 5 → GetsPrefix (O.told out.old) (O.told out.new) text.now }
+    ensures cut { result ≡ 5 → GetsPrefix (O.written out.old) (O.written out.new) text.now }
     ensures failed { result ≡ 5 → O.failed_calls out.new ≡ one_more (O.failed_calls out.old) }
     ensures quiet { result ≡ status
-        → IsUntold (E.told err.old) (E.told err.new) (E.failed_calls err.old) (E.failed_calls err.new) }
+        → IsSilent (E.written err.old) (E.written err.new) (E.failed_calls err.old) (E.failed_calls err.new) }
     ensures line { result ≡ 5
-        → Tells (E.told err.old) (E.told err.new) (E.failed_calls err.old)
+        → GetsOrFails (E.written err.old) (E.written err.new) (E.failed_calls err.old)
         (E.failed_calls err.new) write_line }
 {
     if emit(text, out).is_err() {
-        tell(b"error: write\n", err);
+        write_text(b"error: write\n", err);
         return 5;
     }
     status
@@ -97,9 +97,9 @@ fn deliver<O: Out, E: Out>(text: &[u8], status: u8, out: &mut O, err: &mut E) ->
 
 // Writes the note beside an answer, and then reasons and notes.
 fn emit_beside<E: Out>(line: &[u8], reasons: &[u8], err: &mut E) -> Result<(), WriteFault>
-    ensures written { OnOk result (Gets (E.told err.old) (E.told err.new) (line.now ++ reasons.now)) }
+    ensures written { OnOk result (Gets (E.written err.old) (E.written err.new) (line.now ++ reasons.now)) }
     ensures fine { OnOk result (E.failed_calls err.new ≡ E.failed_calls err.old) }
-    ensures cut { OnErr result (GetsPrefix (E.told err.old) (E.told err.new) (line.now ++ reasons.now)) }
+    ensures cut { OnErr result (GetsPrefix (E.written err.old) (E.written err.new) (line.now ++ reasons.now)) }
     ensures failed { OnErr result (E.failed_calls err.new ≡ one_more (E.failed_calls err.old)) }
 {
     emit(line, err)?;
@@ -107,8 +107,8 @@ fn emit_beside<E: Out>(line: &[u8], reasons: &[u8], err: &mut E) -> Result<(), W
 }
 
 // Writes both to the errors; a fault there changes nothing.
-fn tell_both<E: Out>(line: &[u8], reasons: &[u8], err: &mut E)
-    ensures { Tells (E.told err.old) (E.told err.new) (E.failed_calls err.old)
+fn write_both<E: Out>(line: &[u8], reasons: &[u8], err: &mut E)
+    ensures { GetsOrFails (E.written err.old) (E.written err.new) (E.failed_calls err.old)
         (E.failed_calls err.new) (line.now ++ reasons.now) }
 {
     let _ = emit_beside(line, reasons, err);
@@ -116,23 +116,23 @@ fn tell_both<E: Out>(line: &[u8], reasons: &[u8], err: &mut E)
 
 // Writes a text to the errors, if there is one.
 fn say<E: Out>(text: &[u8], err: &mut E)
-    ensures { SaysText text.now (E.told err.old) (E.told err.new) (E.failed_calls err.old)
+    ensures { SaysText text.now (E.written err.old) (E.written err.new) (E.failed_calls err.old)
         (E.failed_calls err.new) }
 {
     if !text.is_empty() {
-        tell(text, err);
+        write_text(text, err);
     }
 }
 
 // Says the note beside an answer, and then reasons and notes, if there is any.
-fn tell_beside<E: Out>(line: &[u8], reasons: &[u8], err: &mut E)
-    ensures { SaysText (line.now ++ reasons.now) (E.told err.old) (E.told err.new)
+fn write_beside<E: Out>(line: &[u8], reasons: &[u8], err: &mut E)
+    ensures { SaysText (line.now ++ reasons.now) (E.written err.old) (E.written err.new)
         (E.failed_calls err.old) (E.failed_calls err.new) }
 {
     if line.is_empty() {
         return say(reasons, err);
     }
-    tell_both(line, reasons, err);
+    write_both(line, reasons, err);
 }
 
 fn reasons_of(answered: &Answered) -> &[u8]
@@ -149,21 +149,21 @@ fn respond_with<O: Out, E: Out>(answered: &Answered, out: &mut O, err: &mut E) -
     requires { answered.now.reply.status ≤ 1 }
     ensures statuses { (result ≡ answered.now.reply.status) ⊎ (result ≡ 5) }
     ensures written { result ≡ answered.now.reply.status
-        → Gets (O.told out.old) (O.told out.new) answered.now.reply.text.items }
+        → Gets (O.written out.old) (O.written out.new) answered.now.reply.text.items }
     ensures fine { result ≡ answered.now.reply.status → O.failed_calls out.new ≡ O.failed_calls out.old }
-    ensures cut { result ≡ 5 → GetsPrefix (O.told out.old) (O.told out.new) answered.now.reply.text.items }
+    ensures cut { result ≡ 5 → GetsPrefix (O.written out.old) (O.written out.new) answered.now.reply.text.items }
     ensures failed { result ≡ 5 → O.failed_calls out.new ≡ one_more (O.failed_calls out.old) }
     ensures beside { result ≡ answered.now.reply.status
         → SaysFirst (answered.now.reasons ≡ None) (string_bytes answered.now.note)
-        (E.told err.old) (E.told err.new) (E.failed_calls err.old) (E.failed_calls err.new) }
+        (E.written err.old) (E.written err.new) (E.failed_calls err.old) (E.failed_calls err.new) }
     ensures line { result ≡ 5
-        → Tells (E.told err.old) (E.told err.new) (E.failed_calls err.old)
+        → GetsOrFails (E.written err.old) (E.written err.new) (E.failed_calls err.old)
         (E.failed_calls err.new) write_line }
 {
     let reply = &answered.reply;
     let status = deliver(reply.text.as_slice(), reply.status, out, err);
     if status != 5 {
-        tell_beside(answered.note.as_bytes(), reasons_of(answered), err);
+        write_beside(answered.note.as_bytes(), reasons_of(answered), err);
     }
     status
 }
@@ -178,7 +178,7 @@ pub fn respond<F: Files, O: Out, E: Out>(
 ) -> u8
     ensures status { result ≤ 5 }
     ensures answered { result ≤ 1
-        → IsAnswered asked.now (F.holds files.old) result (O.told out.old) (O.told out.new) }
+        → IsAnswered asked.now (F.holds files.old) result (O.written out.old) (O.written out.new) }
     ensures usage { IsUsage asked.now → result ≡ 2 }
     ensures only_usage { result ≡ 2 → IsUsage asked.now
         ⊎ FailsWith 2 asked.now (F.holds files.old) (F.reads files.old) (F.reads files.new) }
@@ -187,30 +187,30 @@ pub fn respond<F: Files, O: Out, E: Out>(
     ensures memory { result ≡ 4 → RanOut asked.now
         ⊎ FailsWith 4 asked.now (F.holds files.old) (F.reads files.old) (F.reads files.new) }
     ensures silent { (result ≡ 2) ⊎ ((result ≡ 3) ⊎ (result ≡ 4))
-        → GetsNothing (O.told out.old) (O.told out.new) }
+        → GetsNothing (O.written out.old) (O.written out.new) }
     ensures fine { result ≤ 4 → O.failed_calls out.new ≡ O.failed_calls out.old }
     ensures failed { result ≡ 5
         → (FailsWith 5 asked.now (F.holds files.old) (F.reads files.old) (F.reads files.new)
-        × GetsNothing (O.told out.old) (O.told out.new))
-        ⊎ (IsCutOff asked.now (F.holds files.old) (O.told out.old) (O.told out.new)
+        × GetsNothing (O.written out.old) (O.written out.new))
+        ⊎ (IsCutOff asked.now (F.holds files.old) (O.written out.old) (O.written out.new)
         × (O.failed_calls out.new ≡ one_more (O.failed_calls out.old))) }
     ensures unread { IsUsage asked.now → (F.reads files.new).calls ≡ (F.reads files.old).calls }
     ensures read { result ≤ 3 → NoneFailed (F.reads files.old) (F.reads files.new) }
     ensures within { result ≤ 3 → FilesAreWithin asked.now (F.holds files.old) }
     ensures calls { (F.reads files.new).calls ≤ (F.reads files.old).calls + 5 * MAX_READS }
     ensures says { SaysWhy asked.now (F.holds files.old) (F.reads files.old) (F.reads files.new) result
-        (E.told err.old) (E.told err.new) (E.failed_calls err.old) (E.failed_calls err.new) }
+        (E.written err.old) (E.written err.new) (E.failed_calls err.old) (E.failed_calls err.new) }
 {
     match asked {
         Asked::Help(text) => deliver(text.as_bytes(), 0, out, err),
         Asked::Usage(text) => {
-            tell(text.as_bytes(), err);
+            write_text(text.as_bytes(), err);
             2
         }
-        Asked::NoMemory => tell_memory(err),
+        Asked::NoMemory => write_memory(err),
         Asked::Run(request) => match perform(alloc, request, files) {
             Ok(answered) => respond_with(&answered, out, err),
-            Err(refusal) => tell_refusal(&refusal, err),
+            Err(refusal) => write_refusal(&refusal, err),
         },
     }
 }
@@ -231,9 +231,9 @@ pub fn execute<F: Files, O: Out, E: Out>(
     ensures status { result ≤ 5 }
     ensures responds { (what : Asked) × (words.now ≡ [] → what ≡ asked.Run built_in_request)
         × IsResponse what (F.holds files.old) (F.reads files.old) (F.reads files.new)
-        (O.failed_calls out.old) (O.failed_calls out.new) result (O.told out.old) (O.told out.new)
+        (O.failed_calls out.old) (O.failed_calls out.new) result (O.written out.old) (O.written out.new)
         × SaysWhy what (F.holds files.old) (F.reads files.old) (F.reads files.new) result
-        (E.told err.old) (E.told err.new) (E.failed_calls err.old) (E.failed_calls err.new) }
+        (E.written err.old) (E.written err.new) (E.failed_calls err.old) (E.failed_calls err.new) }
     ensures calls { (F.reads files.new).calls ≤ (F.reads files.old).calls + 5 * MAX_READS }
 {
     let asked = read_words(alloc, words);

@@ -44,7 +44,7 @@ pub trait Files {
 /// A stream that takes bytes.
 pub trait Out {
     // The bytes that the stream got, where it says them.
-    ghost told: { Self → Option (List ℕ) };
+    ghost written: { Self → Option (List ℕ) };
 
     // How many of its calls failed: those that answered a fault, no byte of a piece that is not
     // empty, or more bytes than the piece has. It is counted up to the greatest `u64`.
@@ -54,5 +54,5 @@ pub trait Out {
     fn write(&mut self, bytes: &[u8]) -> Result<usize, WriteFault>
         ensures counted { failed_calls self.new ≡ (if is_failed_write (length bytes.now) result
             then one_more (failed_calls self.old) else failed_calls self.old) }
-        ensures takes { TakesPiece (told self.old) (told self.new) bytes.now result };
+        ensures takes { TakesPiece (written self.old) (written self.new) bytes.now result };
 }

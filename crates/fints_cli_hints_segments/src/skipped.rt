@@ -20,7 +20,7 @@ fn has_break(segment: &OwnedSegment) -> bool {
 }
 
 // Whether the segment has parameters other than those of an order.
-fn tells_more(segment: &OwnedSegment) -> bool {
+fn says_more(segment: &OwnedSegment) -> bool {
     segment.is_named(b"HIBPA", 3)
         || segment.is_named(b"HIPINS", 1)
         || segment.is_named(b"HIUPA", 4)
@@ -28,7 +28,7 @@ fn tells_more(segment: &OwnedSegment) -> bool {
 }
 
 // Whether the segment says what a bank allows of a kind of orders: HISALS, DIKAZS and so on.
-fn tells_order(segment: &OwnedSegment) -> bool {
+fn says_order(segment: &OwnedSegment) -> bool {
     match segment.head.id.as_bytes() {
         [b'H', b'I', .., b'S'] | [b'D', b'I', .., b'S'] => {
             segment.head.id.as_bytes().len() == 6 && !segment.head.id.is(b"HIPINS")
@@ -134,13 +134,13 @@ fn add_segment(
     place: &InLine,
     segment: &OwnedSegment,
 ) -> Result<(), Memory> {
-    if (tells_order(segment) || tells_more(segment)) && has_break(segment) {
+    if (says_order(segment) || says_more(segment)) && has_break(segment) {
         add_break(text, alloc, place)?;
     }
     if segment.is_named(b"HIUPD", 6) {
         return add_entries(text, alloc, place, segment);
     }
-    if !tells_order(segment) {
+    if !says_order(segment) {
         return Ok(());
     }
     match bad_limit(segment) {
@@ -179,7 +179,7 @@ pub fn skipped_segments(alloc: Global, capture: &[u8]) -> Result<Vec<Skipped>, M
     let mut skipped: Vec<Skipped> = Vec::new(alloc);
     for found in all.as_slice() {
         let segment = &found.segment;
-        if tells_order(segment) && bad_limit(segment).is_some() {
+        if says_order(segment) && bad_limit(segment).is_some() {
             skipped.push(Skipped {
                 id: segment.head.id,
                 version: segment.head.version,

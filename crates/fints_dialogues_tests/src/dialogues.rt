@@ -195,7 +195,7 @@ fn no_parameters(rt: HostRuntime) -> Result<(), Fail> {
 }
 
 // Whether the one answer has parameters of the bank only, in a dialogue without a customer.
-fn tells_of_the_bank(own: &OwnParams<'_>) -> bool {
+fn says_the_bank(own: &OwnParams<'_>) -> bool {
     match own.heard() {
         [heard] => {
             heard.bank().is_some()
@@ -206,16 +206,16 @@ fn tells_of_the_bank(own: &OwnParams<'_>) -> bool {
     }
 }
 
-fn tells_of_the_bank_in(alloc: Global, log: &Log<'_>) -> Result<bool, Fail> {
+fn says_the_bank_in(alloc: Global, log: &Log<'_>) -> Result<bool, Fail> {
     let exchanges = read_dialogue(alloc, log)?;
     let own = OwnParams::of(alloc, exchanges.as_slice())?;
-    Ok(tells_of_the_bank(&own))
+    Ok(says_the_bank(&own))
 }
 
 #[test]
 fn what_answers_tell(rt: HostRuntime) -> Result<(), Fail> {
     let log = read_log(rt.alloc(), DIALOGUE)?;
-    assert!(rt; tells_of_the_bank_in(rt.alloc(), &log)?);
+    assert!(rt; says_the_bank_in(rt.alloc(), &log)?);
     Ok(())
 }
 

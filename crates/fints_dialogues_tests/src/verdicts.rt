@@ -45,11 +45,14 @@ fn none_and_one(rt: HostRuntime) -> Result<(), Fail> {
 
 // The second message is cut off after 45 bytes, and ceases where its HNSHK does.
 #[test]
-fn a_size_too_small(rt: HostRuntime) {
-    let refused = judged(rt.alloc(), TWO, &[55, 45]);
-    let at = match refused {
+fn a_size_too_small(rt: HostRuntime) -> Result<(), Fail> {
+    let at = match judged(rt.alloc(), TWO, &[55, 45]) {
         Err(Fault::Message(JudgeFault::NotAMessage { offset })) => Some(offset),
-        _ => None,
+        judged => {
+            judged?;
+            None
+        }
     };
     assert!(rt; at.is_some_and(|offset| offset >= 55 && offset <= 100));
+    Ok(())
 }

@@ -8,8 +8,8 @@ use fints_rules::{OrderTable, Permissions};
 use fints_script::{Script, Step};
 use std::fs;
 
-// Tells what is found of step n, and how many answers of the bank lead there.
-fn tell_step(rt: &HostRuntime, report: &Report<'_>, n: usize, step: &Step) -> Result<()> {
+// Prints what is found of step n, and how many answers of the bank lead there.
+fn print_step(rt: &HostRuntime, report: &Report<'_>, n: usize, step: &Step) -> Result<()> {
     let name = step.name();
     for (i, finding) in report.findings().iter().enumerate() {
         if usize::from(finding.step) == n {
@@ -24,12 +24,12 @@ fn tell_step(rt: &HostRuntime, report: &Report<'_>, n: usize, step: &Step) -> Re
     Ok(())
 }
 
-fn tell(rt: &HostRuntime, report: &Report<'_>, steps: &[Step]) -> Result<()> {
+fn print_report(rt: &HostRuntime, report: &Report<'_>, steps: &[Step]) -> Result<()> {
     if report.is_clean() {
         println!(rt; "whatever the bank answers, each message is permitted")?;
     }
     for (i, step) in steps.iter().enumerate() {
-        tell_step(rt, report, i + 1, step)?;
+        print_step(rt, report, i + 1, step)?;
     }
     Ok(())
 }
@@ -38,7 +38,7 @@ fn report(rt: &HostRuntime, params: &Params, orders: &OrderTable, script: &Scrip
     let plan = script.plan(orders)?;
     let permissions = Permissions::build(rt.alloc(), params, orders)?;
     let report = check(rt.alloc(), &permissions, &plan)?;
-    tell(rt, &report, script.steps())
+    print_report(rt, &report, script.steps())
 }
 
 fn main(rt: HostRuntime) -> Result<()> {

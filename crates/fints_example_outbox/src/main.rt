@@ -9,7 +9,7 @@ use fints_rules::{Broken, OrderTable, Permissions};
 use outbox::{Held, Outbox};
 use std::fs;
 
-fn tell_broken(rt: &HostRuntime, name: &str, broken: &[Broken]) -> Result<()> {
+fn print_broken(rt: &HostRuntime, name: &str, broken: &[Broken]) -> Result<()> {
     for one in broken {
         println!(rt;
             "{name}: held back, {} at segment {}",
@@ -24,7 +24,7 @@ fn send(rt: &HostRuntime, outbox: &mut Outbox<'_>, name: &str) -> Result<()> {
     let message = fs::read(rt, name)?;
     match outbox.send(message.as_slice()) {
         Ok(()) => println!(rt; "{name}: handed on")?,
-        Err(Held::Broken(broken)) => tell_broken(rt, name, broken.as_slice())?,
+        Err(Held::Broken(broken)) => print_broken(rt, name, broken.as_slice())?,
         Err(Held::Unjudged(fault)) => println!(rt; "{name}: held back, {fault}")?,
     }
     Ok(())

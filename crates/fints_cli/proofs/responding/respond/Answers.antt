@@ -4,7 +4,7 @@ use Rattle.fints_cli_files.specs.Streams.{GetsPrefix}
 use Rattle.fints_cli.proofs.CutAnswers.{cut_answer}
 use Rattle.fints_cli.proofs.Faults.{failure_above, fails_with, first_under}
 use Rattle.fints_cli.proofs.Writes.{got_nothing}
-use Rattle.fints_cli.specs.Responses.{Tells}
+use Rattle.fints_cli.specs.Responses.{GetsOrFails}
 use Rattle.fints_cli.proofs.responding.respond.Goals as goal
 
 pub returns-in-Help-clause-failed : goal.returns-in-Help-clause-failed
@@ -49,7 +49,7 @@ returns-in-Usage-clause-says g c =
     rw c.in-Usage.is
     (record {
       beside = λ few. absurd (omega (arith, few));
-      usage = subst (Tells _ _ _ _) c.as_bytes-in-Usage.ensures.value c.tell.ensures;
+      usage = subst (GetsOrFails _ _ _ _) c.as_bytes-in-Usage.ensures.value c.write_text.ensures;
       line = λ two. inl tt;
       memory = λ four. absurd (omega (arith, four));
     })
@@ -58,10 +58,10 @@ pub returns-in-NoMemory-clause-says : goal.returns-in-NoMemory-clause-says
 returns-in-NoMemory-clause-says g c =
     rw c.in-NoMemory.is
     (record {
-      beside = λ few. absurd (omega (arith, few, c.tell_memory.ensures.status));
+      beside = λ few. absurd (omega (arith, few, c.write_memory.ensures.status));
       usage = tt;
       line = λ two. inr (inl tt);
-      memory = λ four. c.tell_memory.ensures.line;
+      memory = λ four. c.write_memory.ensures.line;
     })
 
 pub returns-in-Ok-clause-says : goal.returns-in-Ok-clause-says
@@ -87,35 +87,35 @@ pub returns-in-Err-clause-says : goal.returns-in-Err-clause-says
 returns-in-Err-clause-says g c =
     rw c.in-Run.is
     (record {
-      beside = λ few. absurd (omega (arith, few, c.tell_refusal.ensures.status, failure_above c.in-Err.refusal.failure));
+      beside = λ few. absurd (omega (arith, few, c.write_refusal.ensures.status, failure_above c.in-Err.refusal.failure));
       usage = tt;
       line = λ two. inr (inr (inr (
         c.in-Err.refusal.failure,
-        (sym c.tell_refusal.ensures.status, c.in-Err.ensures.refused, c.in-Err.ensures.reason),
-        first_under _ _ _ _ _ _ _ c.in-Err.ensures.unasked c.tell_refusal.ensures.line,
+        (sym c.write_refusal.ensures.status, c.in-Err.ensures.refused, c.in-Err.ensures.reason),
+        first_under _ _ _ _ _ _ _ c.in-Err.ensures.unasked c.write_refusal.ensures.line,
       )));
-      memory = c.tell_refusal.ensures.memory;
+      memory = c.write_refusal.ensures.memory;
     })
 
 pub returns-in-Err-clause-only_usage : goal.returns-in-Err-clause-only_usage
 returns-in-Err-clause-only_usage g c two =
-    inr (fails_with _ _ _ _ _ 2 c.in-Err.refusal.failure c.in-Run.is (sym c.tell_refusal.ensures.status ∙ two)
+    inr (fails_with _ _ _ _ _ 2 c.in-Err.refusal.failure c.in-Run.is (sym c.write_refusal.ensures.status ∙ two)
     c.in-Err.ensures.refused c.in-Err.ensures.reason)
 
 pub returns-in-Err-clause-refused : goal.returns-in-Err-clause-refused
 returns-in-Err-clause-refused g c three =
-    fails_with _ _ _ _ _ 3 c.in-Err.refusal.failure c.in-Run.is (sym c.tell_refusal.ensures.status ∙ three)
+    fails_with _ _ _ _ _ 3 c.in-Err.refusal.failure c.in-Run.is (sym c.write_refusal.ensures.status ∙ three)
     c.in-Err.ensures.refused c.in-Err.ensures.reason
 
 pub returns-in-Err-clause-memory : goal.returns-in-Err-clause-memory
 returns-in-Err-clause-memory g c four =
-    inr (fails_with _ _ _ _ _ 4 c.in-Err.refusal.failure c.in-Run.is (sym c.tell_refusal.ensures.status ∙ four)
+    inr (fails_with _ _ _ _ _ 4 c.in-Err.refusal.failure c.in-Run.is (sym c.write_refusal.ensures.status ∙ four)
     c.in-Err.ensures.refused c.in-Err.ensures.reason)
 
 pub returns-in-Err-clause-failed : goal.returns-in-Err-clause-failed
 returns-in-Err-clause-failed g c five =
     inl (
-      fails_with _ _ _ _ _ 5 c.in-Err.refusal.failure c.in-Run.is (sym c.tell_refusal.ensures.status ∙ five)
+      fails_with _ _ _ _ _ 5 c.in-Err.refusal.failure c.in-Run.is (sym c.write_refusal.ensures.status ∙ five)
           c.in-Err.ensures.refused c.in-Err.ensures.reason,
       got_nothing _,
     )

@@ -1,5 +1,5 @@
 use Rattle.fints_cli.proofs.Faults.{says_after, says_with}
-use Rattle.fints_cli.proofs.responding.tell_beside.Goals as goal
+use Rattle.fints_cli.proofs.responding.write_beside.Goals as goal
 
 pub returns-then-is_empty : goal.returns-then-is_empty
 returns-then-is_empty g c =
@@ -7,4 +7,4 @@ returns-then-is_empty g c =
 
 pub returns : goal.returns
 returns g c =
-    says_with _ _ _ _ c.args.line.now c.args.reasons.now _ c.is_empty.ensures c.if-is_empty.false c.tell_both.ensures
+    says_with _ _ _ _ c.args.line.now c.args.reasons.now _ c.is_empty.ensures c.if-is_empty.false c.write_both.ensures
