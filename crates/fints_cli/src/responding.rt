@@ -33,9 +33,11 @@ fn write_memory<E: Out>(err: &mut E) -> u8
 
 // Writes a line: its front, a text, and a line feed.
 fn emit_line<E: Out>(front: &[u8], text: &[u8], err: &mut E) -> Result<(), WriteFault>
-    ensures written { OnOk result (Gets (E.written err.old) (E.written err.new) (line_of front.now text.now)) }
+    ensures written { OnOk result
+        (Gets (E.written err.old) (E.written err.new) (line_of front.now text.now)) }
     ensures fine { OnOk result (E.failed_calls err.new ≡ E.failed_calls err.old) }
-    ensures cut { OnErr result (GetsPrefix (E.written err.old) (E.written err.new) (line_of front.now text.now)) }
+    ensures cut { OnErr result
+        (GetsPrefix (E.written err.old) (E.written err.new) (line_of front.now text.now)) }
     ensures failed { OnErr result (E.failed_calls err.new ≡ one_more (E.failed_calls err.old)) }
 {
     emit(front, err)?;
@@ -99,7 +101,8 @@ fn deliver<O: Out, E: Out>(text: &[u8], status: u8, out: &mut O, err: &mut E) ->
 fn emit_beside<E: Out>(line: &[u8], reasons: &[u8], err: &mut E) -> Result<(), WriteFault>
     ensures written { OnOk result (Gets (E.written err.old) (E.written err.new) (line.now ++ reasons.now)) }
     ensures fine { OnOk result (E.failed_calls err.new ≡ E.failed_calls err.old) }
-    ensures cut { OnErr result (GetsPrefix (E.written err.old) (E.written err.new) (line.now ++ reasons.now)) }
+    ensures cut { OnErr result
+        (GetsPrefix (E.written err.old) (E.written err.new) (line.now ++ reasons.now)) }
     ensures failed { OnErr result (E.failed_calls err.new ≡ one_more (E.failed_calls err.old)) }
 {
     emit(line, err)?;
@@ -151,7 +154,8 @@ fn respond_with<O: Out, E: Out>(answered: &Answered, out: &mut O, err: &mut E) -
     ensures written { result ≡ answered.now.reply.status
         → Gets (O.written out.old) (O.written out.new) answered.now.reply.text.items }
     ensures fine { result ≡ answered.now.reply.status → O.failed_calls out.new ≡ O.failed_calls out.old }
-    ensures cut { result ≡ 5 → GetsPrefix (O.written out.old) (O.written out.new) answered.now.reply.text.items }
+    ensures cut { result ≡ 5
+        → GetsPrefix (O.written out.old) (O.written out.new) answered.now.reply.text.items }
     ensures failed { result ≡ 5 → O.failed_calls out.new ≡ one_more (O.failed_calls out.old) }
     ensures beside { result ≡ answered.now.reply.status
         → SaysFirst (answered.now.reasons ≡ None) (string_bytes answered.now.note)
