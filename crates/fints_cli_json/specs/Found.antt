@@ -1,0 +1,61 @@
+-- An object of the list `findings`: a rule that is broken, where, why, and in which run. And of the list `notes`.
+use Rattle.std.specs.Prelude.{codes, map, List, [], ◌∷◌, ◌++◌, Option, None, Some, string_bytes}
+use Rattle.json.specs.Json.{Json}
+use Rattle.fints_rules.specs.declared.rule.Broken.{Broken}
+use Rattle.fints_rules.specs.declared.rule.Rule.{Rule}
+use Rattle.fints_script_cases.specs.declared.case.Case.{Case}
+use Rattle.fints_cli_json.specs.Case.{case_members}
+use Rattle.fints_cli_json.specs.declared.found.Found.{Found}
+use Rattle.fints_cli_json.specs.declared.found.Place.{Place}
+use Rattle.fints_cli_json.specs.declared.found.Place.TheVariants.{Itself, Message, Step}
+use Rattle.fints_cli_json.specs.declared.note.Note.{Note}
+use Rattle.fints_cli_json.specs.declared.found.SegmentName.{SegmentName}
+use Rattle.fints_cli_json.specs.declared.found.Why.{Why}
+use Rattle.fints_cli_json.specs.Objects.{Member, count, latin, list, nested, object_of, text}
+use Rattle.fints_cli_json.specs.Words.{cause_in, rule_code, rule_word}
+
+abbrev pub broken_members : Broken → List Member
+broken_members b =
+    text (codes "rule") (rule_code b.rule) ∷ text (codes "name") (rule_word b.rule)
+    ∷ count (codes "segment") b.segment ∷ []
+
+-- the kind and the version of a segment; nothing for the message as a whole
+abbrev pub segment_members : Option SegmentName → List Member
+segment_members None = []
+segment_members (Some s) = text (codes "kind") (string_bytes s.kind) ∷ count (codes "version") s.version ∷ []
+
+-- the cause for which a rule is broken, and the words of the reason
+abbrev pub why_members : Rule → Why → List Member
+why_members rule why =
+    text (codes "cause") (cause_in rule why.cause) ∷ text (codes "why") (string_bytes why.words) ∷ []
+
+-- which of several messages, or which step, the finding is about
+abbrev pub place_members : Place → List Member
+place_members Itself = []
+place_members (Message number) = count (codes "message") number ∷ []
+place_members (Step name) = text (codes "step") (latin name) ∷ []
+
+-- a run that breaks the rule
+abbrev pub case_member : Option Case → List Member
+case_member None = []
+case_member (Some case) = nested (codes "case") (case_members case.values case.answers.items) ∷ []
+
+abbrev pub found_members : Found → List Member
+found_members f =
+    place_members f.place
+    ++ (broken_members f.broken
+    ++ (segment_members f.why.segment ++ (why_members f.broken.rule f.why ++ case_member f.case)))
+
+abbrev pub found_value : Found → Json
+found_value f = object_of (found_members f)
+
+abbrev pub note_members : Note → List Member
+note_members note = text (codes "note") (string_bytes note.words) ∷ []
+
+abbrev pub note_value : Note → Json
+note_value note = object_of (note_members note)
+
+-- the findings, and then the notes
+abbrev pub findings_members : List Found → List Note → List Member
+findings_members founds notes =
+    list (codes "findings") (map found_value founds) ∷ list (codes "notes") (map note_value notes) ∷ []

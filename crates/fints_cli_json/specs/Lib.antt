@@ -1,0 +1,11 @@
+pub mod Objects
+pub mod Tokens
+pub mod Words
+pub mod Found
+pub mod Verdicts
+pub mod Case
+pub mod Audits
+pub mod Reports
+pub mod RunMessages
+pub mod Refusals
+pub mod Shows

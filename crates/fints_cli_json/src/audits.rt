@@ -1,0 +1,59 @@
+//! What `audit` answers.
+ghost use Rattle.std.specs.Prelude.{◌≡◌};
+ghost use Rattle.fints_cli_json.specs.Audits.{audit_members, size_members};
+ghost use Rattle.fints_cli_json.specs.Verdicts.{found_status};
+
+use crate::findings::write_findings;
+use crate::found::Found;
+use crate::note::Note;
+use crate::objects::{Object, write_list};
+use crate::words::judge_word;
+use crate::writing::{write_count, write_heading};
+use json::Writer;
+use std::alloc::{AllocError, Global};
+
+/// A message of the client: its number, which counts from 1, and its size in bytes.
+#[derive(Clone, Copy)]
+pub struct MessageSize {
+    pub message: u64,
+    pub size: u64,
+}
+
+impl Object for MessageSize {
+    ghost members = { size_members };
+
+    #[tactic(auto, using(crate::proofs::ObjectLemmas::two_members))]
+    fn write_members(&self, _alloc: Global, out: &mut Writer) -> Result<(), AllocError> {
+        write_count(out, "message", self.message)?;
+        write_count(out, "size", self.size)
+    }
+}
+
+/// The client's messages of a recorded dialogue, the rules that they break, and notes.
+#[derive(Drop)]
+pub struct Audit {
+    pub messages: Vec<MessageSize>,
+    pub founds: Vec<Found>,
+    pub notes: Vec<Note>,
+}
+
+impl Audit {
+    /// The exit status: 0 where nothing is broken, else 1.
+    pub fn status(&self) -> u8
+        ensures { result ≡ found_status self.now.founds.items }
+    {
+        if self.founds.is_empty() { 0 } else { 1 }
+    }
+}
+
+impl Object for Audit {
+    ghost members = { λ a. audit_members a.messages.items a.founds.items a.notes.items };
+
+    #[tactic(auto, using(crate::proofs::ObjectLemmas::members_append, crate::proofs::ObjectLemmas::one_member))]
+    fn write_members(&self, alloc: Global, out: &mut Writer) -> Result<(), AllocError> {
+        let status = self.status();
+        write_heading(out, "audit", status, judge_word(status))?;
+        write_list(alloc, out, "messages", self.messages.as_slice())?;
+        write_findings(alloc, out, self.founds.as_slice(), self.notes.as_slice())
+    }
+}

@@ -1,0 +1,29 @@
+//! Answers as objects of JSON. Their texts are written by `json::Writer`.
+#![tactic(auto)]
+
+mod audits;
+mod case;
+mod findings;
+mod found;
+mod latin;
+mod note;
+mod objects;
+mod refusals;
+mod reports;
+mod rows;
+mod runs;
+mod shows;
+mod values;
+mod verdicts;
+mod words;
+mod writing;
+
+pub use audits::{Audit, MessageSize};
+pub use found::{Found, Place, SegmentName, Why};
+pub use note::Note;
+pub use objects::{Object, object_line};
+pub use refusals::Refused;
+pub use reports::{Certified, RunsReport, StepFigures, Verified};
+pub use runs::{RunMessage, RunMessages};
+pub use shows::{ShownMessage, ShownParams, ShownSegment};
+pub use verdicts::Verdict;

@@ -1,0 +1,36 @@
+//! What `judge` answers.
+ghost use Rattle.std.specs.Prelude.{◌≡◌};
+ghost use Rattle.fints_cli_json.specs.Verdicts.{found_status, judge_members};
+
+use crate::found::Found;
+use crate::objects::{Object, write_list};
+use crate::words::judge_word;
+use crate::writing::write_heading;
+use json::Writer;
+use std::alloc::{AllocError, Global};
+
+/// The rules that a message breaks, in their order.
+#[derive(Drop)]
+pub struct Verdict {
+    pub founds: Vec<Found>,
+}
+
+impl Verdict {
+    /// The exit status: 0 where nothing is broken, else 1.
+    pub fn status(&self) -> u8
+        ensures { result ≡ found_status self.now.founds.items }
+    {
+        if self.founds.is_empty() { 0 } else { 1 }
+    }
+}
+
+impl Object for Verdict {
+    ghost members = { λ v. judge_members v.founds.items };
+
+    #[tactic(auto, using(crate::proofs::ObjectLemmas::then_member))]
+    fn write_members(&self, alloc: Global, out: &mut Writer) -> Result<(), AllocError> {
+        let status = self.status();
+        write_heading(out, "judge", status, judge_word(status))?;
+        write_list(alloc, out, "findings", self.founds.as_slice())
+    }
+}
