@@ -61,7 +61,7 @@ impl Kept {
 }
 
 impl Out for Kept {
-    ghost told = { λ it. Some it.bytes.items };
+    ghost written = { λ it. Some it.bytes.items };
 
     ghost failed_calls = { λ it. it.failed };
 
