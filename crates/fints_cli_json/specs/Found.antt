@@ -42,9 +42,9 @@ case_member (Some case) = nested (codes "case") (case_members case.values case.a
 
 abbrev pub found_members : Found → List Member
 found_members f =
-    place_members f.place
-    ++ (broken_members f.broken
-    ++ (segment_members f.why.segment ++ (why_members f.broken.rule f.why ++ case_member f.case)))
+    place_members f.placed.place
+    ++ (broken_members f.placed.broken
+    ++ (segment_members f.why.segment ++ (why_members f.placed.broken.rule f.why ++ case_member f.case)))
 
 abbrev pub found_value : Found → Json
 found_value f = object_of (found_members f)

@@ -9,3 +9,5 @@ pub mod Reports
 pub mod RunMessages
 pub mod Refusals
 pub mod Shows
+pub mod Placed
+pub mod Reported

@@ -1,5 +1,6 @@
 //! What `audit` answers.
-ghost use Rattle.std.specs.Prelude.{◌≡◌};
+ghost use Rattle.std.specs.Prelude.{◌≡◌, map, IfOk};
+ghost use Rattle.fints_cli_json.specs.Placed.{placed_in, sizes_in};
 ghost use Rattle.fints_cli_json.specs.Audits.{audit_members, size_members};
 ghost use Rattle.fints_cli_json.specs.Verdicts.{found_status};
 
@@ -7,8 +8,11 @@ use crate::findings::write_findings;
 use crate::found::Found;
 use crate::note::Note;
 use crate::objects::{Object, write_list};
+use crate::placed::{Reasons, placed_in, with_reasons};
 use crate::words::judge_word;
 use crate::writing::{write_count, write_heading};
+use fints_rules_dialogues::Audited;
+use fints_syntax::Memory;
 use json::Writer;
 use std::alloc::{AllocError, Global};
 
@@ -37,7 +41,41 @@ pub struct Audit {
     pub notes: Vec<Note>,
 }
 
+// The client's messages, and their sizes.
+fn sizes_of(alloc: Global, audited: &[Audited<'_>]) -> Result<Vec<MessageSize>, Memory>
+    ensures { IfOk result (λ sizes. sizes.items ≡ sizes_in 1 audited.now) }
+{
+    let mut sizes = Vec::new(alloc);
+    for (i, one) in audited.iter().enumerate() {
+        sizes.push(MessageSize {
+            message: i as u64 + 1,
+            size: one.sent.bytes.len() as u64,
+        })?;
+    }
+    Ok(sizes)
+}
+
 impl Audit {
+    /// That of audited messages, with a reason for each rule that is broken.
+    pub fn of<R: Reasons>(
+        alloc: Global,
+        audited: &[Audited<'_>],
+        reasons: &mut R,
+        notes: Vec<Note>,
+    ) -> Result<Audit, Memory>
+        ensures messages { IfOk result (λ a. a.messages.items ≡ sizes_in 1 audited.now) }
+        ensures findings { IfOk result (λ a. map (λ f. f.placed) a.founds.items ≡ placed_in 1 audited.now) }
+    {
+        let messages = sizes_of(alloc, audited)?;
+        let placed = placed_in(alloc, audited)?;
+        let founds = with_reasons(alloc, placed.as_slice(), reasons)?;
+        Ok(Audit {
+            messages,
+            founds,
+            notes,
+        })
+    }
+
     /// The exit status: 0 where nothing is broken, else 1.
     pub fn status(&self) -> u8
         ensures { result ≡ found_status self.now.founds.items }

@@ -41,11 +41,17 @@ pub enum Place {
     Step(Name),
 }
 
-/// A rule that is broken, why, and a run that breaks it, if one is asked for.
-#[derive(Drop)]
-pub struct Found {
+/// A rule that is broken, and where: a finding without its reason.
+#[derive(Clone, Copy)]
+pub struct Placed {
     pub place: Place,
     pub broken: Broken,
+}
+
+/// A finding, why the rule is broken, and a run that breaks it, if one is asked for.
+#[derive(Drop)]
+pub struct Found {
+    pub placed: Placed,
     pub why: Why,
     pub case: Option<Case>,
 }
@@ -111,10 +117,10 @@ impl Object for Found {
 
     #[tactic(auto, using(crate::proofs::ObjectLemmas::members_append))]
     fn write_members(&self, alloc: Global, out: &mut Writer) -> Result<(), AllocError> {
-        write_place(alloc, out, self.place)?;
-        write_broken(out, &self.broken)?;
+        write_place(alloc, out, self.placed.place)?;
+        write_broken(out, &self.placed.broken)?;
         write_segment(out, &self.why.segment)?;
-        write_why(out, self.broken.rule, &self.why)?;
+        write_why(out, self.placed.broken.rule, &self.why)?;
         write_case(alloc, out, &self.case)
     }
 }

@@ -1,5 +1,6 @@
 //! What `check`, `explain` and `certify` answer, and `verify`.
-ghost use Rattle.std.specs.Prelude.{◌≡◌, ◌++◌, codes, OnOk};
+ghost use Rattle.std.specs.Prelude.{◌≡◌, ◌++◌, codes, map, IfOk, OnOk};
+ghost use Rattle.fints_cli_json.specs.Reported.{figures_of, placed_by};
 ghost use Rattle.fints_cli_json.specs.Reports.{certificate_members, certified_part, reached_members, report_members, step_members, verified_members, verified_status};
 ghost use Rattle.fints_cli_json.specs.Tokens.{all_members};
 ghost use Rattle.fints_cli_json.specs.Verdicts.{found_status};
@@ -9,10 +10,13 @@ use crate::found::Found;
 use crate::latin::write_latin;
 use crate::note::Note;
 use crate::objects::{Object, write_list};
+use crate::placed::{Reasons, with_reasons};
+use crate::reported::{placed_in_report, steps_of};
 use crate::words::{clean_word, valid_word};
 use crate::writing::{write_count, write_heading, write_some_text};
-use fints_check_findings::Reached;
+use fints_check_findings::{Reached, Report};
 use fints_script_fields::Name;
+use fints_syntax::Memory;
 use json::Writer;
 use std::alloc::{AllocError, Global};
 
@@ -56,6 +60,31 @@ pub struct RunsReport {
 }
 
 impl RunsReport {
+    /// That of a report, with a reason for each finding.
+    pub fn of<R: Reasons>(
+        alloc: Global,
+        command: &'static str,
+        report: &Report<'_>,
+        reasons: &mut R,
+        notes: Vec<Note>,
+    ) -> Result<RunsReport, Memory>
+        ensures command { IfOk result (λ r. r.command.now ≡ command.now) }
+        ensures steps { IfOk result (λ r. r.steps.items
+            ≡ figures_of report.now.plan.script.steps report.now.figures) }
+        ensures findings { IfOk result (λ r. map (λ f. f.placed) r.founds.items
+            ≡ map (placed_by report.now.plan.script.steps) report.now.findings) }
+    {
+        let steps = steps_of(alloc, report)?;
+        let placed = placed_in_report(alloc, report)?;
+        let founds = with_reasons(alloc, placed.as_slice(), reasons)?;
+        Ok(RunsReport {
+            command,
+            steps,
+            founds,
+            notes,
+        })
+    }
+
     /// The exit status: 0 where nothing is broken, else 1.
     pub fn status(&self) -> u8
         ensures { result ≡ found_status self.now.founds.items }

@@ -1,11 +1,16 @@
 //! What `judge` answers.
-ghost use Rattle.std.specs.Prelude.{◌≡◌};
+ghost use Rattle.std.specs.Prelude.{◌≡◌, map, IfOk};
+ghost use Rattle.fints_cli_json.specs.Placed.{here};
+ghost use Rattle.fints_cli_json.specs.declared.found.Place.TheVariants as places;
 ghost use Rattle.fints_cli_json.specs.Verdicts.{found_status, judge_members};
 
 use crate::found::Found;
 use crate::objects::{Object, write_list};
+use crate::placed::{Reasons, placed_here, with_reasons};
 use crate::words::judge_word;
 use crate::writing::write_heading;
+use fints_rules::Broken;
+use fints_syntax::Memory;
 use json::Writer;
 use std::alloc::{AllocError, Global};
 
@@ -16,6 +21,19 @@ pub struct Verdict {
 }
 
 impl Verdict {
+    /// That of the rules that a message breaks, with a reason for each.
+    pub fn of<R: Reasons>(
+        alloc: Global,
+        broken: &[Broken],
+        reasons: &mut R,
+    ) -> Result<Verdict, Memory>
+        ensures { IfOk result (λ v. map (λ f. f.placed) v.founds.items ≡ map (here places.Itself) broken.now) }
+    {
+        let placed = placed_here(alloc, broken)?;
+        let founds = with_reasons(alloc, placed.as_slice(), reasons)?;
+        Ok(Verdict { founds })
+    }
+
     /// The exit status: 0 where nothing is broken, else 1.
     pub fn status(&self) -> u8
         ensures { result ≡ found_status self.now.founds.items }

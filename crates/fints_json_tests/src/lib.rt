@@ -8,4 +8,6 @@ mod findings;
 #[cfg(test)]
 mod making;
 #[cfg(test)]
+mod placing;
+#[cfg(test)]
 mod shows;

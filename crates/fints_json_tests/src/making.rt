@@ -1,5 +1,5 @@
 //! Parts of objects.
-use fints_cli_json::{Found, Note, Object, Place, SegmentName, Why, object_line};
+use fints_cli_json::{Found, Note, Object, Place, Placed, SegmentName, Why, object_line};
 use fints_rules::{Broken, Cause, Rule};
 use fints_script_fields::Name;
 use std::alloc::Global;
@@ -30,8 +30,7 @@ pub fn at_segment(
         words: String::from_str(alloc, words)?,
     };
     Ok(Found {
-        place,
-        broken,
+        placed: Placed { place, broken },
         why,
         case: None,
     })
@@ -44,9 +43,9 @@ pub fn as_whole(alloc: Global, place: Place, rule: Rule, words: &str) -> Result<
         cause: None,
         words: String::from_str(alloc, words)?,
     };
+    let broken = Broken { rule, segment: 0 };
     Ok(Found {
-        place,
-        broken: Broken { rule, segment: 0 },
+        placed: Placed { place, broken },
         why,
         case: None,
     })

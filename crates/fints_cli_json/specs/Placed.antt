@@ -1,0 +1,21 @@
+-- Findings without their reasons: a rule that is broken, and where.
+use Rattle.std.specs.Prelude.{ℕ, ◌+◌, List, [], ◌∷◌, ◌++◌, length, map}
+use Rattle.fints_rules.specs.declared.rule.Broken.{Broken}
+use Rattle.fints_rules_dialogues.specs.declared.auditing.Audited.{Audited}
+use Rattle.fints_cli_json.specs.declared.audits.MessageSize.{MessageSize}
+use Rattle.fints_cli_json.specs.declared.found.Place.{Place}
+use Rattle.fints_cli_json.specs.declared.found.Place.TheVariants.{Message}
+use Rattle.fints_cli_json.specs.declared.found.Placed.{Placed}
+
+abbrev pub here : Place → Broken → Placed
+here place broken = record { place = place; broken = broken }
+
+-- the rules that the messages of a recorded dialogue break, in order; the first message has this number
+abbrev pub placed_in : ℕ → List Audited → List Placed
+placed_in n [] = []
+placed_in n (a ∷ more) = map (here (Message n)) a.broken.items ++ placed_in (n + 1) more
+
+-- the messages of a recorded dialogue; the first has this number
+abbrev pub sizes_in : ℕ → List Audited → List MessageSize
+sizes_in n [] = []
+sizes_in n (a ∷ more) = record { message = n; size = length a.sent.bytes.now } ∷ sizes_in (n + 1) more

@@ -1,0 +1,106 @@
+//! Findings that get their places and reasons.
+use crate::making::prints;
+use fints_check_findings::check;
+use fints_cli_json::{Audit, Reasons, RunsReport, Verdict, Why};
+use fints_params::Params;
+use fints_rules::{Broken, OrderTable, Permissions, Rule};
+use fints_rules_dialogues::{Audited, RecordedMessage};
+use fints_samples::{C, SECOND_ACCOUNT, T};
+use fints_script::Script;
+use fints_syntax::Memory;
+use std::alloc::Global;
+use std::test::Fail;
+
+// Each reason says the place that it was asked for.
+#[derive(Drop)]
+struct Counted {
+    alloc: Global,
+}
+
+impl Reasons for Counted {
+    fn why(&mut self, place: usize) -> Result<Why, Memory> {
+        let mut words = String::new(self.alloc);
+        for _ in 0..place {
+            words.push_str("x")?;
+        }
+        Ok(Why {
+            segment: None,
+            cause: None,
+            words,
+        })
+    }
+}
+
+fn broken(alloc: Global, rules: &[Rule]) -> Result<Vec<Broken>, Fail> {
+    let mut broken = Vec::new(alloc);
+    for rule in rules {
+        broken.push(Broken {
+            rule: *rule,
+            segment: 0,
+        })?;
+    }
+    Ok(broken)
+}
+
+#[test]
+fn one_message(rt: HostRuntime) -> Result<(), Fail> {
+    let alloc = rt.alloc();
+    let found = broken(alloc, &[Rule::Protocol, Rule::Number])?;
+    let verdict = Verdict::of(alloc, found.as_slice(), &mut Counted { alloc })?;
+    assert!(rt;
+        prints(
+            alloc,
+            &verdict,
+            b"{\"fints\":1,\"command\":\"judge\",\"status\":1,\"verdict\":\"broken\",\"findings\":[{\"rule\":\"P1\",\"name\":\"protocol\",\"segment\":0,\"cause\":\"ProtocolUnlisted\",\"why\":\"\"},{\"rule\":\"P2\",\"name\":\"number\",\"segment\":0,\"cause\":\"NumberTooHigh\",\"why\":\"x\"}]}\n"
+        )?
+    );
+    Ok(())
+}
+
+#[test]
+fn several_messages(rt: HostRuntime) -> Result<(), Fail> {
+    let alloc = rt.alloc();
+    let mut audited = Vec::new(alloc);
+    for rules in [[].as_slice(), &[Rule::Size], &[Rule::Kinds]] {
+        audited.push(Audited {
+            sent: RecordedMessage {
+                start: 0,
+                bytes: b"12345",
+            },
+            begins: false,
+            broken: broken(alloc, rules)?,
+        })?;
+    }
+    let reasons = &mut Counted { alloc };
+    let audit = Audit::of(alloc, audited.as_slice(), reasons, Vec::new(alloc))?;
+    assert!(rt;
+        prints(
+            alloc,
+            &audit,
+            b"{\"fints\":1,\"command\":\"audit\",\"status\":1,\"verdict\":\"broken\",\"messages\":[{\"message\":1,\"size\":5},{\"message\":2,\"size\":5},{\"message\":3,\"size\":5}],\"findings\":[{\"message\":2,\"rule\":\"P3\",\"name\":\"size\",\"segment\":0,\"cause\":\"TooLong\",\"why\":\"\"},{\"message\":3,\"rule\":\"P4\",\"name\":\"kinds\",\"segment\":0,\"cause\":\"TooManyKinds\",\"why\":\"x\"}],\"notes\":[]}\n"
+        )?
+    );
+    Ok(())
+}
+
+// Row `second-account`.
+#[test]
+fn a_script(rt: HostRuntime) -> Result<(), Fail> {
+    let alloc = rt.alloc();
+    let params = Params::read(alloc, C)?;
+    let orders = OrderTable::read(alloc, T)?;
+    let script = Script::read(alloc, SECOND_ACCOUNT)?;
+    let plan = script.plan(&orders)?;
+    let permissions = Permissions::build(alloc, &params, &orders)?;
+    let report = check(alloc, &permissions, &plan)?;
+    let reasons = &mut Counted { alloc };
+    let answer = RunsReport::of(alloc, "check", &report, reasons, Vec::new(alloc))?;
+    assert!(rt;
+        prints(
+            alloc,
+            &answer,
+            b"{\"fints\":1,\"command\":\"check\",\"status\":1,\"verdict\":\"broken\",\"steps\":[{\"step\":\"bal\",\"number\":1,\"size\":195}],\"findings\":[{\"step\":\"bal\",\"rule\":\"P8\",\"name\":\"signatures\",\"segment\":3,\"cause\":\"OrderNeedsMore\",\"why\":\"\"}],\"notes\":[]}\n"
+        )?
+    );
+    Ok(())
+}
