@@ -27,7 +27,8 @@ impl Verdict {
         broken: &[Broken],
         reasons: &mut R,
     ) -> Result<Verdict, Memory>
-        ensures { IfOk result (λ v. map (λ f. f.placed) v.founds.items ≡ map (here places.Itself) broken.now) }
+        ensures { IfOk result (λ v.
+            map (λ f. f.placed) v.founds.items ≡ map (here places.Itself) broken.now) }
     {
         let placed = placed_here(alloc, broken)?;
         let founds = with_reasons(alloc, placed.as_slice(), reasons)?;
