@@ -1,7 +1,7 @@
 pub mod Objects
 pub mod Tokens
 pub mod Words
-pub mod Found
+pub mod Findings
 pub mod Verdicts
 pub mod Case
 pub mod Audits

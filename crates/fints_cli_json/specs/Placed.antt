@@ -3,15 +3,15 @@ use Rattle.std.specs.Prelude.{ℕ, ◌+◌, List, [], ◌∷◌, ◌++◌, lengt
 use Rattle.fints_rules.specs.declared.rule.Broken.{Broken}
 use Rattle.fints_rules_dialogues.specs.declared.auditing.Audited.{Audited}
 use Rattle.fints_cli_json.specs.declared.audits.MessageSize.{MessageSize}
-use Rattle.fints_cli_json.specs.declared.found.Place.{Place}
-use Rattle.fints_cli_json.specs.declared.found.Place.TheVariants.{Message}
-use Rattle.fints_cli_json.specs.declared.found.Placed.{Placed}
+use Rattle.fints_cli_json.specs.declared.found.FindingPlace.{FindingPlace}
+use Rattle.fints_cli_json.specs.declared.found.FindingPlace.TheVariants.{Message}
+use Rattle.fints_cli_json.specs.declared.found.PlacedFinding.{PlacedFinding}
 
-abbrev pub here : Place → Broken → Placed
+abbrev pub here : FindingPlace → Broken → PlacedFinding
 here place broken = record { place = place; broken = broken }
 
 -- the rules that the messages of a recorded dialogue break, in order; the first message has this number
-abbrev pub placed_in : ℕ → List Audited → List Placed
+abbrev pub placed_in : ℕ → List Audited → List PlacedFinding
 placed_in n [] = []
 placed_in n (a ∷ more) = map (here (Message n)) a.broken.items ++ placed_in (n + 1) more
 

@@ -4,8 +4,8 @@ use Rattle.fints_check_findings.specs.declared.finding.Finding.{Finding}
 use Rattle.fints_check_findings.specs.declared.finding.Reached.{Reached}
 use Rattle.fints_cli_scripts.specs.StepNames.{step_name}
 use Rattle.fints_script.specs.Steps.{StepValue}
-use Rattle.fints_cli_json.specs.declared.found.Place.TheVariants.{Step}
-use Rattle.fints_cli_json.specs.declared.found.Placed.{Placed}
+use Rattle.fints_cli_json.specs.declared.found.FindingPlace.TheVariants.{Step}
+use Rattle.fints_cli_json.specs.declared.found.PlacedFinding.{PlacedFinding}
 use Rattle.fints_cli_json.specs.declared.reports.StepFigures.{StepFigures}
 
 -- the steps, each with the figures at its place
@@ -15,9 +15,9 @@ figures_of (step ∷ steps) (reached ∷ figures) =
 figures_of _ _ = []
 
 -- a finding, at the step of this name
-abbrev pub placed_at : List ℕ → Finding → Placed
+abbrev pub placed_at : List ℕ → Finding → PlacedFinding
 placed_at name f = record { place = Step name; broken = record { rule = f.rule; segment = f.segment } }
 
 -- a finding, at its step
-abbrev pub placed_by : List StepValue → Finding → Placed
+abbrev pub placed_by : List StepValue → Finding → PlacedFinding
 placed_by steps f = placed_at (step_name steps f.step) f

@@ -2,10 +2,10 @@
 use Rattle.std.specs.Prelude.{codes, ℕ, Bool, true, false, List, [], ◌∷◌, ◌++◌, map, Option, None, Some, String}
 use Rattle.std.specs.declared.alloc.Global.{Global}
 use Rattle.fints_check_findings.specs.declared.finding.Reached.{Reached}
-use Rattle.fints_cli_json.specs.declared.found.Found.{Found}
-use Rattle.fints_cli_json.specs.declared.note.Note.{Note}
+use Rattle.fints_cli_json.specs.declared.found.JsonFinding.{JsonFinding}
+use Rattle.fints_cli_json.specs.declared.note.JsonNote.{JsonNote}
 use Rattle.fints_cli_json.specs.declared.reports.StepFigures.{StepFigures}
-use Rattle.fints_cli_json.specs.Found.{findings_members, note_value}
+use Rattle.fints_cli_json.specs.Findings.{findings_members, note_value}
 use Rattle.fints_cli_json.specs.Objects.{Member, count, heading, latin, list, object_of, some_text, text}
 use Rattle.fints_cli_json.specs.Verdicts.{found_status}
 use Rattle.fints_cli_json.specs.Words.{clean_word, valid_word}
@@ -20,18 +20,18 @@ abbrev pub step_members : StepFigures → List Member
 step_members s = (text (codes "step") (latin s.name) ∷ []) ++ reached_members s.reached
 
 -- the steps of a script, the rules that its runs break, and notes, for the command of this name
-abbrev pub report_members : List ℕ → List StepFigures → List Found → List Note → List Member
+abbrev pub report_members : List ℕ → List StepFigures → List JsonFinding → List JsonNote → List Member
 report_members command steps founds notes =
     heading command (found_status founds) (clean_word (found_status founds))
     ++ ((list (codes "steps") (map (λ s. object_of (step_members s)) steps) ∷ [])
     ++ findings_members founds notes)
 
 -- a certificate and notes
-abbrev pub certified_part : List ℕ → List Note → List Member
+abbrev pub certified_part : List ℕ → List JsonNote → List Member
 certified_part certificate notes =
     text (codes "certificate") (latin certificate) ∷ list (codes "notes") (map note_value notes) ∷ []
 
-abbrev pub certificate_members : List ℕ → List Note → List Member
+abbrev pub certificate_members : List ℕ → List JsonNote → List Member
 certificate_members certificate notes =
     heading (codes "certify") 0 (clean_word 0) ++ certified_part certificate notes
 

@@ -10,10 +10,10 @@ use Rattle.fints_params.specs.declared.rows.PinRow.{PinRow}
 use Rattle.fints_params.specs.declared.rows.TanRow.{TanRow}
 use Rattle.fints_params.specs.declared.rows.Usage.{Usage}
 use Rattle.fints_params.specs.declared.rows.Usage.TheVariants.{Locked, Unsaid}
-use Rattle.fints_cli_json.specs.declared.note.Note.{Note}
+use Rattle.fints_cli_json.specs.declared.note.JsonNote.{JsonNote}
 use Rattle.fints_cli_json.specs.declared.shows.ShownSegment.{ShownSegment}
 use Rattle.fints_cli_json.specs.Case.{code_value}
-use Rattle.fints_cli_json.specs.Found.{note_value}
+use Rattle.fints_cli_json.specs.Findings.{note_value}
 use Rattle.fints_cli_json.specs.Objects.{Member, count, flag, heading, latin, latin_value, list, nested, number_value, object_of, text}
 
 abbrev pub bank_code : BankRow → List Member
@@ -72,7 +72,7 @@ user_part rows =
     ∷ list (codes "accounts") (map (λ a. object_of (account_members a)) rows.accounts)
     ∷ count (codes "skipped") rows.skipped ∷ []
 
-abbrev pub beside_part : List ℕ → List Note → List Member
+abbrev pub beside_part : List ℕ → List JsonNote → List Member
 beside_part feedback notes =
     list (codes "codes") (map code_value feedback) ∷ list (codes "notes") (map note_value notes) ∷ []
 
@@ -80,7 +80,7 @@ unfoldable pub params_part : Rows → List Member
 params_part rows = bank_part rows ++ user_part rows
 
 -- the rows of a capture, the codes of its feedback, and notes
-abbrev pub shown_members : Rows → List ℕ → List Note → List Member
+abbrev pub shown_members : Rows → List ℕ → List JsonNote → List Member
 shown_members rows feedback notes =
     heading (codes "show") 0 (codes "shown") ++ (params_part rows ++ beside_part feedback notes)
 

@@ -5,10 +5,10 @@ ghost use Rattle.fints_cli_json.specs.Audits.{audit_members, size_members};
 ghost use Rattle.fints_cli_json.specs.Verdicts.{found_status};
 
 use crate::findings::write_findings;
-use crate::found::Found;
-use crate::note::Note;
+use crate::found::JsonFinding;
+use crate::note::JsonNote;
 use crate::objects::{Object, write_list};
-use crate::placed::{Reasons, placed_in, with_reasons};
+use crate::placed::{GivesReasons, placed_in, with_reasons};
 use crate::words::judge_word;
 use crate::writing::{write_count, write_heading};
 use fints_rules_dialogues::Audited;
@@ -35,10 +35,10 @@ impl Object for MessageSize {
 
 /// The client's messages of a recorded dialogue, the rules that they break, and notes.
 #[derive(Drop)]
-pub struct Audit {
+pub struct JsonAudit {
     pub messages: Vec<MessageSize>,
-    pub founds: Vec<Found>,
-    pub notes: Vec<Note>,
+    pub founds: Vec<JsonFinding>,
+    pub notes: Vec<JsonNote>,
 }
 
 // The client's messages, and their sizes.
@@ -55,21 +55,21 @@ fn sizes_of(alloc: Global, audited: &[Audited<'_>]) -> Result<Vec<MessageSize>, 
     Ok(sizes)
 }
 
-impl Audit {
+impl JsonAudit {
     /// That of audited messages, with a reason for each rule that is broken.
-    pub fn of<R: Reasons>(
+    pub fn of<R: GivesReasons>(
         alloc: Global,
         audited: &[Audited<'_>],
         reasons: &mut R,
-        notes: Vec<Note>,
-    ) -> Result<Audit, Memory>
+        notes: Vec<JsonNote>,
+    ) -> Result<JsonAudit, Memory>
         ensures messages { IfOk result (λ a. a.messages.items ≡ sizes_in 1 audited.now) }
         ensures findings { IfOk result (λ a. map (λ f. f.placed) a.founds.items ≡ placed_in 1 audited.now) }
     {
         let messages = sizes_of(alloc, audited)?;
         let placed = placed_in(alloc, audited)?;
         let founds = with_reasons(alloc, placed.as_slice(), reasons)?;
-        Ok(Audit {
+        Ok(JsonAudit {
             messages,
             founds,
             notes,
@@ -84,7 +84,7 @@ impl Audit {
     }
 }
 
-impl Object for Audit {
+impl Object for JsonAudit {
     ghost members = { λ a. audit_members a.messages.items a.founds.items a.notes.items };
 
     #[tactic(auto, using(crate::proofs::ObjectLemmas::members_append, crate::proofs::ObjectLemmas::one_member))]

@@ -1,10 +1,10 @@
 //! The findings of several messages or steps, and the notes.
 ghost use Rattle.std.specs.Prelude.{◌≡◌, ◌++◌, OnOk};
-ghost use Rattle.fints_cli_json.specs.Found.{findings_members};
+ghost use Rattle.fints_cli_json.specs.Findings.{findings_members};
 ghost use Rattle.fints_cli_json.specs.Tokens.{all_members};
 
-use crate::found::Found;
-use crate::note::Note;
+use crate::found::JsonFinding;
+use crate::note::JsonNote;
 use crate::objects::write_list;
 use json::Writer;
 use std::alloc::{AllocError, Global};
@@ -14,8 +14,8 @@ use std::alloc::{AllocError, Global};
 pub fn write_findings(
     alloc: Global,
     out: &mut Writer,
-    founds: &[Found],
-    notes: &[Note],
+    founds: &[JsonFinding],
+    notes: &[JsonNote],
 ) -> Result<(), AllocError>
     ensures tokens { OnOk result
         (out.new.tokens ≡ out.old.tokens ++ all_members (findings_members founds.now notes.now)) }

@@ -1,7 +1,7 @@
 //! What is found, and why: an object of the list `findings`.
 ghost use Rattle.std.specs.Prelude.{◌≡◌, ◌++◌, OnOk};
 ghost use Rattle.fints_cli_json.specs.Tokens.{all_members};
-ghost use Rattle.fints_cli_json.specs.Found.{broken_members, case_member, found_members, place_members, segment_members, why_members};
+ghost use Rattle.fints_cli_json.specs.Findings.{broken_members, case_member, found_members, place_members, segment_members, why_members};
 
 use crate::latin::write_latin;
 use crate::objects::{Object, write_nested};
@@ -22,7 +22,7 @@ pub struct SegmentName {
 
 /// Why a rule is broken. The segment is none where the rule is one of the whole message.
 #[derive(Drop)]
-pub struct Why {
+pub struct Reason {
     pub segment: Option<SegmentName>,
     /// The cause, for a rule of a segment.
     pub cause: Option<Cause>,
@@ -32,7 +32,7 @@ pub struct Why {
 
 /// What a finding is about.
 #[derive(Clone, Copy)]
-pub enum Place {
+pub enum FindingPlace {
     /// The one message that is judged.
     Itself,
     /// The message of the client that has this number, which counts from 1.
@@ -43,28 +43,28 @@ pub enum Place {
 
 /// A rule that is broken, and where: a finding without its reason.
 #[derive(Clone, Copy)]
-pub struct Placed {
-    pub place: Place,
+pub struct PlacedFinding {
+    pub place: FindingPlace,
     pub broken: Broken,
 }
 
 /// A finding, why the rule is broken, and a run that breaks it, if one is asked for.
 #[derive(Drop)]
-pub struct Found {
-    pub placed: Placed,
-    pub why: Why,
+pub struct JsonFinding {
+    pub placed: PlacedFinding,
+    pub why: Reason,
     pub case: Option<Case>,
 }
 
 #[tactic(auto, using(crate::proofs::ObjectLemmas::no_members, crate::proofs::ObjectLemmas::one_member))]
-fn write_place(alloc: Global, out: &mut Writer, place: Place) -> Result<(), AllocError>
+fn write_place(alloc: Global, out: &mut Writer, place: FindingPlace) -> Result<(), AllocError>
     ensures tokens { OnOk result (out.new.tokens ≡ out.old.tokens ++ all_members (place_members place)) }
     ensures before { out.new.before ≡ out.old.before }
 {
     match place {
-        Place::Itself => Ok(()),
-        Place::Message(number) => write_count(out, "message", number),
-        Place::Step(name) => write_latin(alloc, out, "step", name.as_bytes()),
+        FindingPlace::Itself => Ok(()),
+        FindingPlace::Message(number) => write_count(out, "message", number),
+        FindingPlace::Step(name) => write_latin(alloc, out, "step", name.as_bytes()),
     }
 }
 
@@ -93,7 +93,7 @@ fn write_segment(out: &mut Writer, segment: &Option<SegmentName>) -> Result<(), 
 }
 
 #[tactic(auto, using(crate::proofs::ObjectLemmas::two_members))]
-fn write_why(out: &mut Writer, rule: Rule, why: &Why) -> Result<(), AllocError>
+fn write_why(out: &mut Writer, rule: Rule, why: &Reason) -> Result<(), AllocError>
     ensures tokens { OnOk result (out.new.tokens ≡ out.old.tokens ++ all_members (why_members rule why.now)) }
     ensures before { out.new.before ≡ out.old.before }
 {
@@ -112,7 +112,7 @@ fn write_case(alloc: Global, out: &mut Writer, case: &Option<Case>) -> Result<()
     }
 }
 
-impl Object for Found {
+impl Object for JsonFinding {
     ghost members = { found_members };
 
     #[tactic(auto, using(crate::proofs::ObjectLemmas::members_append))]

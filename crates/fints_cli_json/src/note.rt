@@ -1,5 +1,5 @@
 //! A note, as an object of the list `notes`.
-ghost use Rattle.fints_cli_json.specs.Found.{note_members};
+ghost use Rattle.fints_cli_json.specs.Findings.{note_members};
 
 use crate::objects::Object;
 use crate::writing::write_text;
@@ -8,11 +8,11 @@ use std::alloc::{AllocError, Global};
 
 /// A note; no contract says what its words are.
 #[derive(Drop)]
-pub struct Note {
+pub struct JsonNote {
     pub words: String,
 }
 
-impl Object for Note {
+impl Object for JsonNote {
     ghost members = { note_members };
 
     #[tactic(auto, using(crate::proofs::ObjectLemmas::one_member))]

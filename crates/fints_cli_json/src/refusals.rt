@@ -8,14 +8,14 @@ use std::alloc::{AllocError, Global};
 
 /// Why a command has no answer: its exit status, the words of the line `error`, and what to look at.
 #[derive(Drop)]
-pub struct Refused {
+pub struct JsonRefusal {
     pub command: &'static str,
     pub status: u8,
     pub error: String,
     pub hint: Option<String>,
 }
 
-impl Object for Refused {
+impl Object for JsonRefusal {
     ghost members = { λ r. refusal_members r.command.now r.status r.error r.hint };
 
     #[tactic(auto, using(crate::proofs::ObjectLemmas::members_append, crate::proofs::ObjectLemmas::one_member))]

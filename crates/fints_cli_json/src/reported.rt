@@ -2,7 +2,7 @@
 ghost use Rattle.std.specs.Prelude.{◌≡◌, ◌++◌, ◌∷◌, [], map, IfOk, OnOk};
 ghost use Rattle.fints_cli_json.specs.Reported.{figures_of, placed_at, placed_by};
 
-use crate::found::{Place, Placed};
+use crate::found::{FindingPlace, PlacedFinding};
 use crate::reports::StepFigures;
 use fints_check_findings::{Finding, Report};
 use fints_rules::Broken;
@@ -27,22 +27,22 @@ pub fn steps_of(alloc: Global, report: &Report<'_>) -> Result<Vec<StepFigures>, 
 }
 
 // Adds a finding, at the step of this name.
-fn push_finding(out: &mut Vec<Placed>, name: Name, finding: &Finding) -> Result<(), Memory>
+fn push_finding(out: &mut Vec<PlacedFinding>, name: Name, finding: &Finding) -> Result<(), Memory>
     ensures { OnOk result (out.new.items ≡ out.old.items ++ placed_at name finding.now ∷ []) }
 {
     let broken = Broken {
         rule: finding.rule,
         segment: finding.segment,
     };
-    out.push(Placed {
-        place: Place::Step(name),
+    out.push(PlacedFinding {
+        place: FindingPlace::Step(name),
         broken,
     })?;
     Ok(())
 }
 
 /// The findings, each at its step.
-pub fn placed_in_report(alloc: Global, report: &Report<'_>) -> Result<Vec<Placed>, Memory>
+pub fn placed_in_report(alloc: Global, report: &Report<'_>) -> Result<Vec<PlacedFinding>, Memory>
     ensures { IfOk result (λ placed. placed.items
         ≡ map (placed_by report.now.plan.script.steps) report.now.findings) }
 {

@@ -6,11 +6,11 @@ ghost use Rattle.fints_cli_json.specs.Tokens.{all_members};
 ghost use Rattle.fints_cli_json.specs.Verdicts.{found_status};
 
 use crate::findings::write_findings;
-use crate::found::Found;
+use crate::found::JsonFinding;
 use crate::latin::write_latin;
-use crate::note::Note;
+use crate::note::JsonNote;
 use crate::objects::{Object, write_list};
-use crate::placed::{Reasons, with_reasons};
+use crate::placed::{GivesReasons, with_reasons};
 use crate::reported::{placed_in_report, steps_of};
 use crate::words::{clean_word, valid_word};
 use crate::writing::{write_count, write_heading, write_some_text};
@@ -55,18 +55,18 @@ impl Object for StepFigures {
 pub struct RunsReport {
     pub command: &'static str,
     pub steps: Vec<StepFigures>,
-    pub founds: Vec<Found>,
-    pub notes: Vec<Note>,
+    pub founds: Vec<JsonFinding>,
+    pub notes: Vec<JsonNote>,
 }
 
 impl RunsReport {
     /// That of a report, with a reason for each finding.
-    pub fn of<R: Reasons>(
+    pub fn of<R: GivesReasons>(
         alloc: Global,
         command: &'static str,
         report: &Report<'_>,
         reasons: &mut R,
-        notes: Vec<Note>,
+        notes: Vec<JsonNote>,
     ) -> Result<RunsReport, Memory>
         ensures command { IfOk result (λ r. r.command.now ≡ command.now) }
         ensures steps { IfOk result (λ r. r.steps.items
@@ -107,16 +107,16 @@ impl Object for RunsReport {
 
 /// A certificate of a script without findings, and notes.
 #[derive(Drop)]
-pub struct Certified {
+pub struct JsonCertificate {
     pub certificate: Vec<u8>,
-    pub notes: Vec<Note>,
+    pub notes: Vec<JsonNote>,
 }
 
 #[tactic(auto, using(crate::proofs::ObjectLemmas::two_members))]
 fn write_certificate(
     alloc: Global,
     out: &mut Writer,
-    certified: &Certified,
+    certified: &JsonCertificate,
 ) -> Result<(), AllocError>
     ensures tokens { OnOk result (out.new.tokens ≡ out.old.tokens
         ++ all_members (certified_part certified.now.certificate.items certified.now.notes.items)) }
@@ -126,7 +126,7 @@ fn write_certificate(
     write_list(alloc, out, "notes", certified.notes.as_slice())
 }
 
-impl Object for Certified {
+impl Object for JsonCertificate {
     ghost members = { λ c. certificate_members c.certificate.items c.notes.items };
 
     #[tactic(auto, using(crate::proofs::ObjectLemmas::then_members))]

@@ -4,7 +4,7 @@ ghost use Rattle.fints_cli_json.specs.Shows.{bank_part, beside_part, params_part
 ghost use Rattle.fints_cli_json.specs.Tokens.{all_members};
 
 use crate::latin::write_latin;
-use crate::note::Note;
+use crate::note::JsonNote;
 use crate::objects::{Object, write_list, write_nested};
 use crate::values::write_codes;
 use crate::writing::{write_count, write_flag, write_heading};
@@ -17,7 +17,7 @@ use std::alloc::{AllocError, Global};
 pub struct ShownParams<'a> {
     pub params: &'a Params,
     pub codes: &'a [Code],
-    pub notes: &'a [Note],
+    pub notes: &'a [JsonNote],
 }
 
 // What it says of the bank.
@@ -67,7 +67,7 @@ fn write_beside(
     alloc: Global,
     out: &mut Writer,
     codes: &[Code],
-    notes: &[Note],
+    notes: &[JsonNote],
 ) -> Result<(), AllocError>
     ensures tokens { OnOk result
         (out.new.tokens ≡ out.old.tokens ++ all_members (beside_part codes.now notes.now)) }

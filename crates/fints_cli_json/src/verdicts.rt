@@ -1,12 +1,12 @@
 //! What `judge` answers.
 ghost use Rattle.std.specs.Prelude.{◌≡◌, map, IfOk};
 ghost use Rattle.fints_cli_json.specs.Placed.{here};
-ghost use Rattle.fints_cli_json.specs.declared.found.Place.TheVariants as places;
+ghost use Rattle.fints_cli_json.specs.declared.found.FindingPlace.TheVariants as places;
 ghost use Rattle.fints_cli_json.specs.Verdicts.{found_status, judge_members};
 
-use crate::found::Found;
+use crate::found::JsonFinding;
 use crate::objects::{Object, write_list};
-use crate::placed::{Reasons, placed_here, with_reasons};
+use crate::placed::{GivesReasons, placed_here, with_reasons};
 use crate::words::judge_word;
 use crate::writing::write_heading;
 use fints_rules::Broken;
@@ -16,23 +16,23 @@ use std::alloc::{AllocError, Global};
 
 /// The rules that a message breaks, in their order.
 #[derive(Drop)]
-pub struct Verdict {
-    pub founds: Vec<Found>,
+pub struct JsonVerdict {
+    pub founds: Vec<JsonFinding>,
 }
 
-impl Verdict {
+impl JsonVerdict {
     /// That of the rules that a message breaks, with a reason for each.
-    pub fn of<R: Reasons>(
+    pub fn of<R: GivesReasons>(
         alloc: Global,
         broken: &[Broken],
         reasons: &mut R,
-    ) -> Result<Verdict, Memory>
+    ) -> Result<JsonVerdict, Memory>
         ensures { IfOk result (λ v.
             map (λ f. f.placed) v.founds.items ≡ map (here places.Itself) broken.now) }
     {
         let placed = placed_here(alloc, broken)?;
         let founds = with_reasons(alloc, placed.as_slice(), reasons)?;
-        Ok(Verdict { founds })
+        Ok(JsonVerdict { founds })
     }
 
     /// The exit status: 0 where nothing is broken, else 1.
@@ -43,7 +43,7 @@ impl Verdict {
     }
 }
 
-impl Object for Verdict {
+impl Object for JsonVerdict {
     ghost members = { λ v. judge_members v.founds.items };
 
     #[tactic(auto, using(crate::proofs::ObjectLemmas::then_member))]

@@ -1,6 +1,6 @@
 //! What `verify` and `run` answer, and refusals.
 use crate::making::{name, prints};
-use fints_cli_json::{Refused, RunMessage, RunMessages, Verified};
+use fints_cli_json::{JsonRefusal, RunMessage, RunMessages, Verified};
 use std::test::Fail;
 
 #[test]
@@ -57,7 +57,7 @@ fn a_run(rt: HostRuntime) -> Result<(), Fail> {
 #[test]
 fn refusals(rt: HostRuntime) -> Result<(), Fail> {
     let alloc = rt.alloc();
-    let hinted = Refused {
+    let hinted = JsonRefusal {
         command: "judge",
         status: 3,
         error: String::from_str(alloc, "message NotAMessage at 0")?,
@@ -70,7 +70,7 @@ fn refusals(rt: HostRuntime) -> Result<(), Fail> {
             b"{\"fints\":1,\"command\":\"judge\",\"status\":3,\"verdict\":\"refused\",\"error\":\"message NotAMessage at 0\",\"hint\":\"a\\\\b\\u0001\xc3\xbc\"}\n"
         )?
     );
-    let memory = Refused {
+    let memory = JsonRefusal {
         command: "run",
         status: 4,
         error: String::from_str(alloc, "memory")?,

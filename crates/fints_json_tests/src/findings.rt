@@ -2,7 +2,8 @@
 use crate::making::{as_whole, at_segment, name, note, prints};
 use fints_check_findings::Reached;
 use fints_cli_json::{
-    Audit, Certified, Found, MessageSize, Place, RunsReport, StepFigures, Verdict,
+    FindingPlace, JsonAudit, JsonCertificate, JsonFinding, JsonVerdict, MessageSize, RunsReport,
+    StepFigures,
 };
 use fints_rules::{Broken, Cause, Rule};
 use fints_script_cases::Case;
@@ -22,7 +23,7 @@ const SIGNATURES: Broken = Broken {
 #[test]
 fn a_message(rt: HostRuntime) -> Result<(), Fail> {
     let alloc = rt.alloc();
-    let permitted = Verdict {
+    let permitted = JsonVerdict {
         founds: Vec::new(alloc),
     };
     assert!(rt;
@@ -36,13 +37,13 @@ fn a_message(rt: HostRuntime) -> Result<(), Fail> {
     let words = "the account of number \"1234567\" is none of the 3 accounts of the capture";
     founds.push(at_segment(
         alloc,
-        Place::Itself,
+        FindingPlace::Itself,
         ACCOUNT,
         "HKSAL",
         Cause::AccountLocked,
         words,
     )?)?;
-    let broken = Verdict { founds };
+    let broken = JsonVerdict { founds };
     assert!(rt; broken.status() == 1);
     assert!(rt;
         prints(
@@ -59,8 +60,15 @@ fn a_message(rt: HostRuntime) -> Result<(), Fail> {
 fn another_cause(rt: HostRuntime) -> Result<(), Fail> {
     let alloc = rt.alloc();
     let mut founds = Vec::new(alloc);
-    founds.push(at_segment(alloc, Place::Itself, SIGNATURES, "HKCCS", Cause::NoTan, "")?)?;
-    let broken = Verdict { founds };
+    founds.push(at_segment(
+        alloc,
+        FindingPlace::Itself,
+        SIGNATURES,
+        "HKCCS",
+        Cause::NoTan,
+        "",
+    )?)?;
+    let broken = JsonVerdict { founds };
     assert!(rt;
         prints(
             alloc,
@@ -86,12 +94,12 @@ fn a_recording(rt: HostRuntime) -> Result<(), Fail> {
     let mut founds = Vec::new(alloc);
     founds.push(as_whole(
         alloc,
-        Place::Message(2),
+        FindingPlace::Message(2),
         Rule::Release,
         "the order waits for its TAN",
     )?)?;
     let notes = note(alloc, "message 1: signed and not sealed")?;
-    let audit = Audit {
+    let audit = JsonAudit {
         messages,
         founds,
         notes,
@@ -123,8 +131,8 @@ fn steps(alloc: Global) -> Result<Vec<StepFigures>, Fail> {
     Ok(steps)
 }
 
-fn explained(alloc: Global) -> Result<Found, Fail> {
-    let place = Place::Step(name(b"transfer")?);
+fn explained(alloc: Global) -> Result<JsonFinding, Fail> {
+    let place = FindingPlace::Step(name(b"transfer")?);
     let mut found = at_segment(
         alloc,
         place,
@@ -179,7 +187,7 @@ fn a_clean_script(rt: HostRuntime) -> Result<(), Fail> {
         )?
     );
     let certificate: &[u8] = b"fints-cert 2\nstep init 1 784\n";
-    let certified = Certified {
+    let certified = JsonCertificate {
         certificate: certificate.to_vec(alloc)?,
         notes: Vec::new(alloc),
     };

@@ -1,5 +1,7 @@
 //! Parts of objects.
-use fints_cli_json::{Found, Note, Object, Place, Placed, SegmentName, Why, object_line};
+use fints_cli_json::{
+    FindingPlace, JsonFinding, JsonNote, Object, PlacedFinding, Reason, SegmentName, object_line,
+};
 use fints_rules::{Broken, Cause, Rule};
 use fints_script_fields::Name;
 use std::alloc::Global;
@@ -14,47 +16,52 @@ pub fn name(text: &[u8]) -> Result<Name, Fail> {
 /// A rule that is broken at a segment of this kind, version 7.
 pub fn at_segment(
     alloc: Global,
-    place: Place,
+    place: FindingPlace,
     broken: Broken,
     kind: &str,
     cause: Cause,
     words: &str,
-) -> Result<Found, Fail> {
+) -> Result<JsonFinding, Fail> {
     let segment = SegmentName {
         kind: String::from_str(alloc, kind)?,
         version: 7,
     };
-    let why = Why {
+    let why = Reason {
         segment: Some(segment),
         cause: Some(cause),
         words: String::from_str(alloc, words)?,
     };
-    Ok(Found {
-        placed: Placed { place, broken },
+    Ok(JsonFinding {
+        placed: PlacedFinding { place, broken },
         why,
         case: None,
     })
 }
 
 /// A rule that a message breaks as a whole.
-pub fn as_whole(alloc: Global, place: Place, rule: Rule, words: &str) -> Result<Found, Fail> {
-    let why = Why {
+pub fn as_whole(
+    alloc: Global,
+    place: FindingPlace,
+    rule: Rule,
+    words: &str,
+) -> Result<JsonFinding, Fail> {
+    let why = Reason {
         segment: None,
         cause: None,
         words: String::from_str(alloc, words)?,
     };
     let broken = Broken { rule, segment: 0 };
-    Ok(Found {
-        placed: Placed { place, broken },
+    Ok(JsonFinding {
+        placed: PlacedFinding { place, broken },
         why,
         case: None,
     })
 }
 
 /// A list of one note.
-pub fn note(alloc: Global, words: &str) -> Result<Vec<Note>, Fail> {
+pub fn note(alloc: Global, words: &str) -> Result<Vec<JsonNote>, Fail> {
     let mut notes = Vec::new(alloc);
-    notes.push(Note {
+    notes.push(JsonNote {
         words: String::from_str(alloc, words)?,
     })?;
     Ok(notes)

@@ -1,7 +1,7 @@
 //! Findings that get their places and reasons.
 use crate::making::prints;
 use fints_check_findings::check;
-use fints_cli_json::{Audit, Reasons, RunsReport, Verdict, Why};
+use fints_cli_json::{GivesReasons, JsonAudit, JsonVerdict, Reason, RunsReport};
 use fints_params::Params;
 use fints_rules::{Broken, OrderTable, Permissions, Rule};
 use fints_rules_dialogues::{Audited, RecordedMessage};
@@ -17,13 +17,13 @@ struct Counted {
     alloc: Global,
 }
 
-impl Reasons for Counted {
-    fn why(&mut self, place: usize) -> Result<Why, Memory> {
+impl GivesReasons for Counted {
+    fn why(&mut self, place: usize) -> Result<Reason, Memory> {
         let mut words = String::new(self.alloc);
         for _ in 0..place {
             words.push_str("x")?;
         }
-        Ok(Why {
+        Ok(Reason {
             segment: None,
             cause: None,
             words,
@@ -46,7 +46,7 @@ fn broken(alloc: Global, rules: &[Rule]) -> Result<Vec<Broken>, Fail> {
 fn one_message(rt: HostRuntime) -> Result<(), Fail> {
     let alloc = rt.alloc();
     let found = broken(alloc, &[Rule::Protocol, Rule::Number])?;
-    let verdict = Verdict::of(alloc, found.as_slice(), &mut Counted { alloc })?;
+    let verdict = JsonVerdict::of(alloc, found.as_slice(), &mut Counted { alloc })?;
     assert!(rt;
         prints(
             alloc,
@@ -72,7 +72,7 @@ fn several_messages(rt: HostRuntime) -> Result<(), Fail> {
         })?;
     }
     let reasons = &mut Counted { alloc };
-    let audit = Audit::of(alloc, audited.as_slice(), reasons, Vec::new(alloc))?;
+    let audit = JsonAudit::of(alloc, audited.as_slice(), reasons, Vec::new(alloc))?;
     assert!(rt;
         prints(
             alloc,
