@@ -57,9 +57,7 @@ fn one_message(rt: HostRuntime) -> Result<(), Fail> {
     Ok(())
 }
 
-#[test]
-fn several_messages(rt: HostRuntime) -> Result<(), Fail> {
-    let alloc = rt.alloc();
+fn three_messages(alloc: Global) -> Result<Vec<Audited<'static>>, Fail> {
     let mut audited = Vec::new(alloc);
     for rules in [[].as_slice(), &[Rule::Size], &[Rule::Kinds]] {
         audited.push(Audited {
@@ -71,6 +69,13 @@ fn several_messages(rt: HostRuntime) -> Result<(), Fail> {
             broken: broken(alloc, rules)?,
         })?;
     }
+    Ok(audited)
+}
+
+#[test]
+fn several_messages(rt: HostRuntime) -> Result<(), Fail> {
+    let alloc = rt.alloc();
+    let audited = three_messages(alloc)?;
     let reasons = &mut Counted { alloc };
     let audit = JsonAudit::of(alloc, audited.as_slice(), reasons, Vec::new(alloc))?;
     assert!(rt;
@@ -83,10 +88,7 @@ fn several_messages(rt: HostRuntime) -> Result<(), Fail> {
     Ok(())
 }
 
-// Row `second-account`.
-#[test]
-fn a_script(rt: HostRuntime) -> Result<(), Fail> {
-    let alloc = rt.alloc();
+fn second_account(alloc: Global) -> Result<RunsReport, Fail> {
     let params = Params::read(alloc, C)?;
     let orders = OrderTable::read(alloc, T)?;
     let script = Script::read(alloc, SECOND_ACCOUNT)?;
@@ -95,6 +97,14 @@ fn a_script(rt: HostRuntime) -> Result<(), Fail> {
     let report = check(alloc, &permissions, &plan)?;
     let reasons = &mut Counted { alloc };
     let answer = RunsReport::of(alloc, "check", &report, reasons, Vec::new(alloc))?;
+    Ok(answer)
+}
+
+// Row `second-account`.
+#[test]
+fn a_script(rt: HostRuntime) -> Result<(), Fail> {
+    let alloc = rt.alloc();
+    let answer = second_account(alloc)?;
     assert!(rt;
         prints(
             alloc,
