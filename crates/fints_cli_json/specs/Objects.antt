@@ -8,7 +8,7 @@ use Rattle.json.specs.Json.{Json, boolean, number, string, array, object, Items,
 use Rattle.json.specs.Print.{print}
 use Rattle.json.specs.Tree.{json_tokens}
 
--- the text of bytes, each of which is a character of ISO 8859-1, in UTF-8
+-- the text of bytes in UTF-8: each byte is the character of ISO 8859-1 that has its number
 abbrev pub latin : List ℕ → List ℕ
 latin bytes = flat_map encode_utf8 bytes
 
