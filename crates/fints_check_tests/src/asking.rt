@@ -2,6 +2,7 @@
 //! function that reads three inputs costs more to prove than the test that asks it.
 ghost use Rattle.std.specs.Prelude.{◌≡◌};
 
+use crate::objects::is_object;
 use fints_check::{Certificate, Certified, Finding, Reached, check, confirm, verify};
 use fints_params::Params;
 use fints_rules::{OrderTable, Permissions};
@@ -18,6 +19,8 @@ pub enum Said<'a> {
     Report(Reached, &'a [Finding], u64),
     /// The case of the first finding.
     Case(&'a [u8]),
+    /// The object of the report.
+    Object(&'a [u8]),
     /// The certificate of the report, where it has one.
     Certificate(Option<&'a [u8]>),
     /// Whether a case shows a finding.
@@ -98,6 +101,10 @@ fn is_true(alloc: Global, asked: Asked<'_>, said: Said<'_>) -> Result<bool, Fail
     match said {
         Said::Report(last, findings, visits) => is_report(alloc, asked, last, findings, visits),
         Said::Case(case) => is_first_case(alloc, asked, case),
+        Said::Object(object) => {
+            let report = check(alloc, asked.permissions, asked.plan)?;
+            is_object(alloc, &report, object)
+        }
         Said::Certificate(wanted) => is_certified(alloc, asked, wanted),
         Said::Confirmed(finding, case, wanted) => {
             Ok(is_confirmed(alloc, asked, &finding, case)? == wanted)

@@ -10,4 +10,6 @@ mod hints;
 #[cfg(test)]
 mod numbers;
 #[cfg(test)]
+mod objects;
+#[cfg(test)]
 mod reports;

@@ -1,12 +1,8 @@
 //! Findings that get their places and reasons.
 use crate::making::prints;
-use fints_check_findings::check;
-use fints_cli_json::{GivesReasons, JsonAudit, JsonVerdict, Reason, RunsReport};
-use fints_params::Params;
-use fints_rules::{Broken, OrderTable, Permissions, Rule};
+use fints_cli_json::{GivesReasons, JsonAudit, JsonVerdict, Reason};
+use fints_rules::{Broken, Rule};
 use fints_rules_dialogues::{Audited, RecordedMessage};
-use fints_samples::{C, SECOND_ACCOUNT, T};
-use fints_script::Script;
 use fints_syntax::Memory;
 use std::alloc::Global;
 use std::test::Fail;
@@ -83,33 +79,6 @@ fn several_messages(rt: HostRuntime) -> Result<(), Fail> {
             alloc,
             &audit,
             b"{\"fints\":1,\"command\":\"audit\",\"status\":1,\"verdict\":\"broken\",\"messages\":[{\"message\":1,\"size\":5},{\"message\":2,\"size\":5},{\"message\":3,\"size\":5}],\"findings\":[{\"message\":2,\"rule\":\"P3\",\"name\":\"size\",\"segment\":0,\"cause\":\"TooLong\",\"why\":\"\"},{\"message\":3,\"rule\":\"P4\",\"name\":\"kinds\",\"segment\":0,\"cause\":\"TooManyKinds\",\"why\":\"x\"}],\"notes\":[]}\n"
-        )?
-    );
-    Ok(())
-}
-
-fn second_account(alloc: Global) -> Result<RunsReport, Fail> {
-    let params = Params::read(alloc, C)?;
-    let orders = OrderTable::read(alloc, T)?;
-    let script = Script::read(alloc, SECOND_ACCOUNT)?;
-    let plan = script.plan(&orders)?;
-    let permissions = Permissions::build(alloc, &params, &orders)?;
-    let report = check(alloc, &permissions, &plan)?;
-    let reasons = &mut Counted { alloc };
-    let answer = RunsReport::of(alloc, "check", &report, reasons, Vec::new(alloc))?;
-    Ok(answer)
-}
-
-// Row `second-account`.
-#[test]
-fn a_script(rt: HostRuntime) -> Result<(), Fail> {
-    let alloc = rt.alloc();
-    let answer = second_account(alloc)?;
-    assert!(rt;
-        prints(
-            alloc,
-            &answer,
-            b"{\"fints\":1,\"command\":\"check\",\"status\":1,\"verdict\":\"broken\",\"steps\":[{\"step\":\"bal\",\"number\":1,\"size\":195}],\"findings\":[{\"step\":\"bal\",\"rule\":\"P8\",\"name\":\"signatures\",\"segment\":3,\"cause\":\"OrderNeedsMore\",\"why\":\"\"}],\"notes\":[]}\n"
         )?
     );
     Ok(())
