@@ -11,3 +11,4 @@ pub mod Refusals
 pub mod Shows
 pub mod Placed
 pub mod Reported
+pub mod Laws

@@ -6,6 +6,7 @@ mod case;
 mod findings;
 mod found;
 mod latin;
+pub mod laws;
 mod note;
 mod objects;
 mod placed;
