@@ -1,6 +1,6 @@
 //! What `audit` answers.
 ghost use Rattle.std.specs.Prelude.{◌≡◌, map, IfOk};
-ghost use Rattle.fints_cli_json.specs.Placed.{placed_in, sizes_in};
+ghost use Rattle.fints_cli_json.specs.Placed.{AreWithoutCase, placed_in, sizes_in};
 ghost use Rattle.fints_cli_json.specs.Audits.{audit_members, size_members};
 ghost use Rattle.fints_cli_json.specs.Verdicts.{found_status};
 
@@ -65,6 +65,8 @@ impl JsonAudit {
     ) -> Result<JsonAudit, Memory>
         ensures messages { IfOk result (λ a. a.messages.items ≡ sizes_in 1 audited.now) }
         ensures findings { IfOk result (λ a. map (λ f. f.placed) a.founds.items ≡ placed_in 1 audited.now) }
+        ensures cases { IfOk result (λ a. AreWithoutCase a.founds.items) }
+        ensures notes { IfOk result (λ a. a.notes.items ≡ notes.items) }
     {
         let messages = sizes_of(alloc, audited)?;
         let placed = placed_in(alloc, audited)?;

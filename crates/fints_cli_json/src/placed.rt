@@ -1,6 +1,6 @@
 //! Findings with their reasons.
 ghost use Rattle.std.specs.Prelude.{◌≡◌, ◌++◌, ◌∷◌, [], map, IfOk, OnOk};
-ghost use Rattle.fints_cli_json.specs.Placed.{here, placed_in};
+ghost use Rattle.fints_cli_json.specs.Placed.{AreWithoutCase, here, placed_in};
 ghost use Rattle.fints_cli_json.specs.declared.found.FindingPlace.TheVariants as places;
 
 use crate::found::{FindingPlace, JsonFinding, PlacedFinding, Reason};
@@ -21,7 +21,8 @@ pub fn with_reasons<R: GivesReasons>(
     placed: &[PlacedFinding],
     reasons: &mut R,
 ) -> Result<Vec<JsonFinding>, Memory>
-    ensures { IfOk result (λ founds. map (λ f. f.placed) founds.items ≡ placed.now) }
+    ensures findings { IfOk result (λ founds. map (λ f. f.placed) founds.items ≡ placed.now) }
+    ensures cases { IfOk result (λ founds. AreWithoutCase founds.items) }
 {
     let mut founds = Vec::new(alloc);
     for (i, one) in placed.iter().enumerate() {

@@ -1,5 +1,6 @@
 //! What `check`, `explain` and `certify` answer, and `verify`.
 ghost use Rattle.std.specs.Prelude.{◌≡◌, ◌++◌, codes, map, IfOk, OnOk};
+ghost use Rattle.fints_cli_json.specs.Placed.{AreWithoutCase};
 ghost use Rattle.fints_cli_json.specs.Reported.{figures_of, placed_by};
 ghost use Rattle.fints_cli_json.specs.Reports.{certificate_members, certified_part, reached_members, report_members, step_members, verified_members, verified_status};
 ghost use Rattle.fints_cli_json.specs.Tokens.{all_members};
@@ -73,6 +74,8 @@ impl RunsReport {
             ≡ figures_of report.now.plan.script.steps report.now.figures) }
         ensures findings { IfOk result (λ r. map (λ f. f.placed) r.founds.items
             ≡ map (placed_by report.now.plan.script.steps) report.now.findings) }
+        ensures cases { IfOk result (λ r. AreWithoutCase r.founds.items) }
+        ensures notes { IfOk result (λ r. r.notes.items ≡ notes.items) }
     {
         let steps = steps_of(alloc, report)?;
         let placed = placed_in_report(alloc, report)?;

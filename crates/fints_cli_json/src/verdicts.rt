@@ -1,6 +1,6 @@
 //! What `judge` answers.
 ghost use Rattle.std.specs.Prelude.{◌≡◌, map, IfOk};
-ghost use Rattle.fints_cli_json.specs.Placed.{here};
+ghost use Rattle.fints_cli_json.specs.Placed.{AreWithoutCase, here};
 ghost use Rattle.fints_cli_json.specs.declared.found.FindingPlace.TheVariants as places;
 ghost use Rattle.fints_cli_json.specs.Verdicts.{found_status, judge_members};
 
@@ -27,8 +27,9 @@ impl JsonVerdict {
         broken: &[Broken],
         reasons: &mut R,
     ) -> Result<JsonVerdict, Memory>
-        ensures { IfOk result (λ v.
+        ensures findings { IfOk result (λ v.
             map (λ f. f.placed) v.founds.items ≡ map (here places.Itself) broken.now) }
+        ensures cases { IfOk result (λ v. AreWithoutCase v.founds.items) }
     {
         let placed = placed_here(alloc, broken)?;
         let founds = with_reasons(alloc, placed.as_slice(), reasons)?;
